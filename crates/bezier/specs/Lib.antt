@@ -1,0 +1,2 @@
+-- `Exact`: document 01, "Exact samples".
+pub mod Exact

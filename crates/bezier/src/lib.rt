@@ -1,0 +1,1 @@
+// Exact values of Bezier objects: definitions in specs/, laws in proofs/.

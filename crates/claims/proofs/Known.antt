@@ -1,0 +1,17 @@
+-- K1 to K12 hold: one claim, computed from the definitions.
+use lib.Dec.{T}
+use Rattle.bezier.specs.Exact.{blend, scale, points, value}
+use Rattle.decide.specs.Some.{someBelow, someOf}
+use Rattle.decide.specs.Refusal.{firstThat}
+use Rattle.walk.specs.Walk.{withinHalf, towards, move, walk, cell}
+use Rattle.walk.specs.Steps.{farApart, someSample, tooLong}
+use Rattle.drawing.specs.Cube.{someAxis, sideOut}
+use Rattle.drawing.specs.Object.{offset, coordinate, exact, cellOf}
+use Rattle.drawing.specs.Refusals.{countOut, coordinateOut, stepsTooLong, order, drawVerdict}
+use Rattle.drawing.specs.Drawing.{row, bytes}
+use Rattle.claims.specs.Known.{known, holds, allHold}
+
+pub known-hold : T (allHold known)
+unfolding blend scale points value someBelow someOf firstThat withinHalf towards move walk cell farApart someSample tooLong
+    someAxis sideOut offset coordinate exact cellOf countOut coordinateOut stepsTooLong order drawVerdict row bytes holds allHold
+known-hold = tt

@@ -1,0 +1,2 @@
+-- `Known`: K1 to K12 hold.
+pub mod Known

@@ -1,0 +1,2 @@
+-- `Known`: document 01, "Samples to check by", K1 to K12.
+pub mod Known

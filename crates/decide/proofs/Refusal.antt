@@ -1,0 +1,77 @@
+-- The first number that applies, in words: no number exactly where no rule applies, and otherwise the number of a rule that applies while none
+-- before it does.
+use mathlib.Core.Path.{_≡_, refl}
+use mathlib.Core.Logic.{_↔_, _≢_, _⊎_, inl, inr, ⊎-elim}
+use mathlib.Core.Bool.{Bool, true, false, cond}
+use mathlib.Core.List.{List, [], _∷_}
+use Prim.Native.Nat.{ℕ}
+use native.Mathlib.Omega.{arith}
+use Rattle.decide.specs.Refusal.{Rule, Verdict, accepted, refused, firstThat}
+
+-- No rule of the order applies.
+abbrev pub NoneApplies : List Rule → Type 0
+NoneApplies [] = Unit {0}
+NoneApplies (r ∷ rs) = (r .applies ≡ false) × NoneApplies rs
+
+-- A rule with number k applies, and none before it does.
+pub data FirstApplies (k : ℕ) : List Rule → Type 0 where
+  here : {r : Rule} {rs : List Rule} → r .applies ≡ true → r .number ≡ k → FirstApplies k (r ∷ rs)
+  there : {r : Rule} {rs : List Rule} → r .applies ≡ false → FirstApplies k rs → FirstApplies k (r ∷ rs)
+
+-- The verdict of an order from its first rule and the verdict of the rest.
+step : Rule → Verdict → Verdict
+step r v = cond (r .applies) (refused (r .number)) v
+
+module _ (r : Rule) (v : Verdict) where
+  step-accepted : (step r v ≡ accepted) ↔ ((r .applies ≡ false) × (v ≡ accepted))
+  unfolding step
+  step-accepted = (go (r .applies), λ p. rw (p .0) (p .1))
+    where
+      go : (b : Bool) → cond b (refused (r .number)) v ≡ accepted → (b ≡ false) × (v ≡ accepted)
+      go true e = let z : _≡_ {A = ℕ} 0 1 = cc in absurd (omega arith)
+      go false e = (refl, e)
+
+  step-refused : (k : ℕ) → step r v ≡ refused k →
+      ((r .applies ≡ true) × (r .number ≡ k)) ⊎ ((r .applies ≡ false) × (v ≡ refused k))
+  unfolding step
+  step-refused k = go (r .applies)
+    where
+      go : (b : Bool) → cond b (refused (r .number)) v ≡ refused k →
+          ((b ≡ true) × (r .number ≡ k)) ⊎ ((b ≡ false) × (v ≡ refused k))
+      go true e = inl (refl, cc)
+      go false e = inr (refl, e)
+
+-- No number is answered exactly where no rule applies.
+pub accepted-none : (rules : List Rule) → (firstThat rules ≡ accepted) ↔ NoneApplies rules
+unfolding firstThat step
+accepted-none [] = (λ e. tt, λ u. refl)
+accepted-none (r ∷ rs) =
+    let s = step-accepted r (firstThat rs) in
+    let b = accepted-none rs in
+    (λ e. (s .0 e .0, b .0 (s .0 e .1)), λ p. s .1 (p .0, b .1 (p .1)))
+
+first-of-refused : (rules : List Rule) (k : ℕ) → firstThat rules ≡ refused k → FirstApplies k rules
+unfolding firstThat step
+first-of-refused [] k e = let z : _≡_ {A = ℕ} 0 1 = cc in absurd (omega arith)
+first-of-refused (r ∷ rs) k e =
+    ⊎-elim (λ p. here (p .0) (p .1)) (λ p. there (p .0) (first-of-refused rs k (p .1)))
+    (step-refused r (firstThat rs) k e)
+
+refused-of-first : {rules : List Rule} {k : ℕ} → FirstApplies k rules → firstThat rules ≡ refused k
+unfolding firstThat
+refused-of-first (here a e) = rw (a, e)
+refused-of-first (there a f) = rw a (refused-of-first f)
+
+-- A number is answered exactly where its rule is the first that applies.
+pub refused-first : (rules : List Rule) (k : ℕ) → (firstThat rules ≡ refused k) ↔ FirstApplies k rules
+refused-first rules k = (first-of-refused rules k, refused-of-first)
+
+-- A rule with another number, before the first that applies, does not apply.
+pub passed-over : {k : ℕ} {r : Rule} {rs : List Rule} → FirstApplies k (r ∷ rs) → r .number ≢ k →
+    (r .applies ≡ false) × FirstApplies k rs
+passed-over (here a e) other = absurd (other e)
+passed-over (there a f) other = (a, f)
+
+-- The only rule left is the one that applies.
+pub only-left : {k : ℕ} {r : Rule} → FirstApplies k (r ∷ []) → r .applies ≡ true
+only-left (here a e) = a

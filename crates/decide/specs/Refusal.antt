@@ -1,0 +1,28 @@
+-- Document 01, "Who can cause which refusal": a call answers the first number that applies, and no number otherwise.
+use mathlib.Core.Bool.{Bool, cond}
+use mathlib.Core.List.{List, [], _∷_}
+use Prim.Native.Nat.{ℕ}
+
+-- A refusal number, and whether it applies.
+pub record Rule : Type 0 where
+  pub number : ℕ
+  pub applies : Bool
+
+abbrev pub _when_ : ℕ → Bool → Rule
+k when b = record { number = k; applies = b }
+
+infix 68 _when_
+-- What a call is answered: no number, or the number.
+pub data Verdict : Type 0 where
+  accepted : Verdict
+  refused : ℕ → Verdict
+
+-- The first number of the order that applies.
+unfoldable pub firstThat : List Rule → Verdict
+firstThat [] = accepted
+firstThat (r ∷ rs) = cond (r .applies) (refused (r .number)) (firstThat rs)
+
+-- The numbers of an order, as document 01 lists them.
+unfoldable pub numbers : List Rule → List ℕ
+numbers [] = []
+numbers (r ∷ rs) = r .number ∷ numbers rs

@@ -1,0 +1,1 @@
+// Tests that compute: definitions in specs/, their meaning in words in proofs/.

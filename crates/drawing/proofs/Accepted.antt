@@ -1,0 +1,135 @@
+-- What acceptance says in words, both ways: each test of the order is turned into its inequality or into "no long step".
+use mathlib.Core.Path.{_≡_, refl}
+use mathlib.Core.Logic.{_↔_, _⊎_, inl, inr, ⊎-elim, Iff·trans}
+use mathlib.Core.Bool.{Bool, true, false, not, _||_, true≢false}
+use mathlib.Core.List.{List, [], _∷_}
+use Prim.Native.Nat.{ℕ, suc, _+_, _*_, _≤_, _<_}
+use native.Mathlib.Omega.{arith}
+use lib.Dec.{T, T-not, not-T, ltb, eqb}
+use lib.ListN.{length, getD}
+use Rattle.decide.specs.Some.{someOf}
+use Rattle.decide.specs.Refusal.{Verdict, accepted, refused, firstThat}
+use Rattle.decide.proofs.Truth.{neither, not-less, less, equal, true-of, false-of, false-iff, decided}
+use Rattle.decide.proofs.Some.{some-of}
+use Rattle.decide.proofs.Refusal.{NoneApplies, accepted-none}
+use Rattle.walk.specs.Steps.{tooLong, LongStep}
+use Rattle.walk.proofs.Long.{too-long}
+use Rattle.drawing.specs.Cube.{Axis, sideOut, someAxis, volume}
+use Rattle.drawing.specs.Object.{Object, unit, exact}
+use Rattle.drawing.specs.Refusals.{countOut, coordinateOut, stepsTooLong, order, drawVerdict, listVerdict, sampleCount, Drawable}
+use Rattle.drawing.proofs.Cube.{some-axis}
+
+-- 11 does not apply.
+pub side-in : (S : ℕ) → (¬ T (sideOut S)) ↔ ((2 ≤ S) × (S ≤ 64))
+unfolding sideOut
+side-in S = (
+  λ f. let p = neither (ltb S 2) (ltb 64 S) .0 f in (not-less S 2 (p .0), not-less 64 S (p .1)),
+  λ h. neither (ltb S 2) (ltb 64 S) .1
+      (λ t. omega (arith, less S 2 .0 t, h .0), λ t. omega (arith, less 64 S .0 t, h .1)),
+)
+
+-- 13 does not apply to a count.
+pub count-in : (most n : ℕ) → (¬ T (countOut most n)) ↔ ((1 ≤ n) × (n ≤ most))
+unfolding countOut
+count-in most n = (
+  λ f. let p = neither (eqb n 0) (ltb most n) .0 f in
+      let z : ¬ (n ≡ 0) = λ e. p .0 (equal n 0 .1 e) in
+      (omega arith, not-less most n (p .1)),
+  λ h. neither (eqb n 0) (ltb most n) .1
+      (λ t. omega (arith, equal n 0 .0 t, h .0), λ t. omega (arith, less most n .0 t, h .1)),
+)
+
+-- 14 does not apply to a coordinate.
+pub coordinate-in : (S c : ℕ) → (¬ T (coordinateOut S c)) ↔ (c < S)
+unfolding coordinateOut
+coordinate-in S c = (
+  λ f. ⊎-elim (λ t. less c S .0 t) (λ u. absurd (f (not-T (ltb c S) u))) (decided (ltb c S)),
+  λ h t. T-not (ltb c S) t (less c S .1 h),
+)
+
+-- 15 applies: some axis has a long step.
+pub steps-too-long : (o : Object) → T (stepsTooLong o) ↔ ((a : Axis) × LongStep (unit o) (o .counts) (exact o a))
+unfolding stepsTooLong
+steps-too-long o = (
+  λ t. let w = some-axis (λ a. tooLong (unit o) (o .counts) (exact o a)) .0 t in
+      (w .0, too-long (unit o) (o .counts) (exact o (w .0)) .0 (w .1)),
+  λ w. some-axis (λ a. tooLong (unit o) (o .counts) (exact o a)) .1
+      (w .0, too-long (unit o) (o .counts) (exact o (w .0)) .1 (w .1)),
+)
+
+module _ (p : ℕ → Bool) (l : List ℕ) where
+  -- No element of the list passes.
+  none-of : (¬ T (someOf p l)) ↔ ((k : ℕ) → k < length l → ¬ T (p (getD l k 0)))
+  none-of = (λ f k h t. f (some-of p l .1 (k, h, t)), λ g t. let w = some-of p l .0 t in g (w .0) (w .1) (w .2))
+
+module _ (S : ℕ) (o : Object) where
+  drawable-of : (g m l : Bool) → NoneApplies (order S o g m l) → Drawable S o
+  unfolding order
+  drawable-of g m l n =
+      let side = side-in S .0 (false-iff _ .0 (n .0)) in
+      let counts = none-of (countOut (o .most)) (o .counts) .0 (false-iff _ .0 (n .1 .1 .1 .0)) in
+      let points = none-of (coordinateOut S) (o .points) .0 (false-iff _ .0 (n .1 .1 .1 .1 .1 .0)) in
+      let steps = false-iff (stepsTooLong o) .0 (n .1 .1 .1 .1 .1 .1 .0) in
+      record {
+        side-least = side .0;
+        side-most = side .1;
+        count-least = λ k h. count-in (o .most) (getD (o .counts) k 0) .0 (counts k h) .0;
+        count-most = λ k h. count-in (o .most) (getD (o .counts) k 0) .0 (counts k h) .1;
+        coordinate-below = λ k h. coordinate-in S (getD (o .points) k 0) .0 (points k h);
+        steps-short = λ a l. steps (steps-too-long o .1 (a, l));
+      }
+
+  none-applies : (g m l : Bool) → Drawable S o → g ≡ false → m ≡ false → l ≡ false → NoneApplies (order S o g m l)
+  unfolding order
+  none-applies g m l d eg em el =
+      let side = side-in S .1 (d .side-least, d .side-most) in
+      let counts = none-of (countOut (o .most)) (o .counts) .1
+      (λ k h. count-in (o .most) (getD (o .counts) k 0) .1 (d .count-least k h, d .count-most k h)) in
+      let points = none-of (coordinateOut S) (o .points) .1
+      (λ k h. coordinate-in S (getD (o .points) k 0) .1 (d .coordinate-below k h)) in
+      let steps : ¬ T (stepsTooLong o) = λ t. let w = steps-too-long o .0 t in d .steps-short (w .0) (w .1) in
+      (false-of _ side, (eg, (em, (false-of _ counts, (el, (false-of _ points, (false-of _ steps, tt)))))))
+
+  -- An order answers no number exactly where the object is drawable and none of the call's own tests applies.
+  pub order-accepted : (g m l : Bool) →
+      (firstThat (order S o g m l) ≡ accepted) ↔ (Drawable S o × (g ≡ false) × (m ≡ false) × (l ≡ false))
+  unfolding order
+  order-accepted g m l = (
+    λ e. let n = accepted-none (order S o g m l) .0 e in
+        (drawable-of g m l n, n .1 .0, n .1 .1 .0, n .1 .1 .1 .1 .0),
+    λ w. accepted-none (order S o g m l) .1 (none-applies g m l (w .0) (w .1) (w .2) (w .3)),
+  )
+
+  -- A drawing is accepted exactly where the object is drawable, the grid has S × S × S bytes and the mark is not 0.
+  pub draw-accepted : (len : ℕ) →
+      (drawVerdict S len o ≡ accepted) ↔ (Drawable S o × (len ≡ volume S) × (1 ≤ o .mark))
+  unfolding drawVerdict
+  draw-accepted len = (
+    λ e. let w = order-accepted (not (eqb len (volume S))) (eqb (o .mark) 0) false .0 e in
+        (w .0, equal len (volume S) .0 (not-false (eqb len (volume S)) (w .1)), positive (w .2)),
+    λ w. order-accepted (not (eqb len (volume S))) (eqb (o .mark) 0) false .1 (
+      w .0,
+      rw (true-of (eqb len (volume S)) (equal len (volume S) .1 (w .1))),
+      false-of _ (λ t. omega (arith, equal (o .mark) 0 .0 t, w .2)),
+      refl,
+    ),
+  )
+    where
+      not-false : (b : Bool) → not b ≡ false → T b
+      not-false true e = tt
+      not-false false e = absurd (true≢false e)
+
+      positive : eqb (o .mark) 0 ≡ false → 1 ≤ o .mark
+      positive e = let z : ¬ (o .mark ≡ 0) = λ q. false-iff (eqb (o .mark) 0) .0 e (equal (o .mark) 0 .1 q) in omega arith
+
+  -- A listing is accepted exactly where the object is drawable and the list has room for its cells.
+  pub list-accepted : (len : ℕ) →
+      (listVerdict S len o ≡ accepted) ↔ (Drawable S o × (3 * sampleCount (o .counts) ≤ len))
+  unfolding listVerdict
+  list-accepted len =
+      let room : ℕ = 3 * sampleCount (o .counts) in (
+        λ e. let w = order-accepted false false (ltb len room) .0 e in
+            (w .0, not-less len room (false-iff (ltb len room) .0 (w .3))),
+        λ w. order-accepted false false (ltb len room) .1
+            (w .0, refl, refl, false-of (ltb len room) (λ t. omega (arith, less len room .0 t, w .1))),
+      )

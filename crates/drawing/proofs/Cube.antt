@@ -1,0 +1,68 @@
+-- Places of cells: each cell of a cube stands at a byte of its grid, and different cells at different bytes. The three coordinates are the place's
+-- digits to the base S.
+use mathlib.Core.Path.{_≡_, sym}
+use mathlib.Core.Logic.{_↔_, _⊎_, inl, inr, ⊎-elim}
+use mathlib.Core.Bool.{Bool, _||_}
+use Prim.Native.Nat.{ℕ, suc, _+_, _*_, _≤_, _<_}
+use native.Mathlib.Nat.{mul-le-mul-left}
+use native.Mathlib.Omega.{arith}
+use lib.Dec.{T}
+use Rattle.decide.proofs.Truth.{either}
+use Rattle.drawing.specs.Cube.{Axis, x-axis, y-axis, z-axis, someAxis, Cell, Inside, volume, place}
+
+-- Some axis passes.
+pub some-axis : (p : Axis → Bool) → T (someAxis p) ↔ ((a : Axis) × T (p a))
+unfolding someAxis
+some-axis p = (
+  λ t. ⊎-elim
+      (λ u. ⊎-elim (λ v. (x-axis, v)) (λ v. (y-axis, v)) (either (p x-axis) (p y-axis) .0 u))
+      (λ v. (z-axis, v))
+      (either (p x-axis || p y-axis) (p z-axis) .0 t),
+  λ w. seen (w .0) (w .1),
+)
+  where
+    seen : (a : Axis) → T (p a) → T (p x-axis || p y-axis || p z-axis)
+    seen x-axis t = either (p x-axis || p y-axis) (p z-axis) .1 (inl (either (p x-axis) (p y-axis) .1 (inl t)))
+    seen y-axis t = either (p x-axis || p y-axis) (p z-axis) .1 (inl (either (p x-axis) (p y-axis) .1 (inr t)))
+    seen z-axis t = either (p x-axis || p y-axis) (p z-axis) .1 (inr t)
+
+-- A digit a to the base S, and p above it.
+digit-below : {S a p q : ℕ} → a < S → p < q → a + S * p < S * q
+digit-below {S} h l = omega (arith, mul-le-mul-left S l)
+
+digit-not-less : (S a b p q : ℕ) → a < S → b < S → a + S * p ≡ b + S * q → ¬ (p < q)
+digit-not-less S a b p q ha hb e l = omega (arith, mul-le-mul-left S l)
+
+-- Equal numbers have equal digits.
+digit-same : (S a b p q : ℕ) → a < S → b < S → a + S * p ≡ b + S * q → (a ≡ b) × (p ≡ q)
+digit-same S a b p q ha hb e =
+    let up : ¬ (p < q) = digit-not-less S a b p q ha hb e in
+    let down : ¬ (q < p) = digit-not-less S b a q p hb ha (sym e) in
+    let same : p ≡ q = omega arith in
+    let e′ : a + S * q ≡ b + S * q = rw same at e in
+    (omega arith, same)
+
+digits : (S : ℕ) (c : Cell) → place S c ≡ c x-axis + S * (c y-axis + S * c z-axis)
+unfolding place
+digits S c = omega arith
+
+-- The place of a cell of the cube is a byte of the grid.
+pub place-below : (S : ℕ) (c : Cell) → Inside S c → place S c < volume S
+place-below S c h =
+    let yz : c y-axis + S * c z-axis < S * S = digit-below (h y-axis) (h z-axis) in
+    let all : c x-axis + S * (c y-axis + S * c z-axis) < S * (S * S) = digit-below (h x-axis) yz in
+    rw digits (omega arith)
+
+-- Cells at one place are one cell.
+pub place-injective : (S : ℕ) (c d : Cell) → Inside S c → Inside S d → place S c ≡ place S d → (a : Axis) → c a ≡ d a
+place-injective S c d h k e a =
+    let e′ : c x-axis + S * (c y-axis + S * c z-axis) ≡ d x-axis + S * (d y-axis + S * d z-axis) =
+    rw (digits S c, digits S d) at e in
+    let x = digit-same S (c x-axis) (d x-axis) _ _ (h x-axis) (k x-axis) e′ in
+    let yz = digit-same S (c y-axis) (d y-axis) _ _ (h y-axis) (k y-axis) (x .1) in
+    pick (x .0) (yz .0) (yz .1) a
+  where
+    pick : c x-axis ≡ d x-axis → c y-axis ≡ d y-axis → c z-axis ≡ d z-axis → (a : Axis) → c a ≡ d a
+    pick x y z x-axis = x
+    pick x y z y-axis = y
+    pick x y z z-axis = z

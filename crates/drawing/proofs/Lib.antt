@@ -1,0 +1,8 @@
+-- `Cube`: places of cells. `Samples`: the samples that a drawing goes through. `Marked`: what a grid holds after marks. `Accepted`: what acceptance
+-- says. `Cells`: the cells of an accepted object. `Orders`: the refusal numbers in document 01's order.
+pub mod Cube
+pub mod Samples
+pub mod Marked
+pub mod Accepted
+pub mod Cells
+pub mod Orders

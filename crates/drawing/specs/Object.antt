@@ -1,0 +1,45 @@
+-- Document 01, "The colour cube" and "Exact samples and the walk": the curve and the patch, their exact samples and their cells.
+use mathlib.Core.List.{List, [], _∷_}
+use Prim.Native.Nat.{ℕ, _+_, _*_}
+use lib.ListN.{getD}
+use Rattle.bezier.specs.Exact.{scale, value}
+use Rattle.walk.specs.Walk.{cell}
+use Rattle.drawing.specs.Cube.{Axis, x-axis, y-axis, z-axis, Cell}
+
+-- What a call draws: step counts, one a parameter, each 1 to `most`; the points' coordinates, three a point; a mark.
+pub record Object : Type 0 where
+  pub most : ℕ
+  pub counts : List ℕ
+  pub points : List ℕ
+  pub mark : ℕ
+
+-- A curve: twelve coordinates, x, y, z of points 0 to 3, with its step count n, 1 to 512.
+abbrev pub curve : (n : ℕ) (points : List ℕ) (mark : ℕ) → Object
+curve n points mark = record { most = 512; counts = n ∷ []; points = points; mark = mark }
+
+-- A patch: sixteen points g(i, j) with point number 4 × i + j, and counts n along t and m along u, each 1 to 256.
+abbrev pub patch : (n m : ℕ) (points : List ℕ) (mark : ℕ) → Object
+patch n m points mark = record { most = 256; counts = n ∷ m ∷ []; points = points; mark = mark }
+
+-- Where an axis stands among a point's three coordinates.
+unfoldable pub offset : Axis → ℕ
+offset x-axis = 0
+offset y-axis = 1
+offset z-axis = 2
+
+-- The coordinate of point number k.
+unfoldable pub coordinate : (points : List ℕ) (a : Axis) (k : ℕ) → ℕ
+coordinate points a k = getD points (3 * k + offset a) 0
+
+module _ (o : Object) where
+  -- The scale of the exact values: N.
+  abbrev pub unit : ℕ
+  unit = scale (o .counts)
+
+  -- The exact value of a sample on an axis, over `unit`.
+  unfoldable pub exact : Axis → List ℕ → ℕ
+  exact a is = value (o .counts) (coordinate (o .points) a) is
+
+  -- The cell of a sample: the walk from point 0, on each axis.
+  unfoldable pub cellOf : List ℕ → Cell
+  cellOf is a = cell unit (coordinate (o .points) a 0) (exact a) is

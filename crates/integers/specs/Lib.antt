@@ -1,0 +1,2 @@
+-- What contracts cite of the integers.
+pub mod Magnitude

@@ -1,0 +1,1 @@
+// Laws on the integers ℤ: no code, only definitions in specs/ and laws in proofs/.
