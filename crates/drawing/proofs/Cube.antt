@@ -4,7 +4,7 @@ use mathlib.Core.Path.{_≡_, sym}
 use mathlib.Core.Logic.{_↔_, _⊎_, inl, inr, ⊎-elim}
 use mathlib.Core.Bool.{Bool, _||_}
 use Prim.Native.Nat.{ℕ, suc, _+_, _*_, _≤_, _<_}
-use native.Mathlib.Nat.{mul-le-mul-left}
+use native.Mathlib.Nat.{le-of-lt, lt-of-le-of-lt, mul-le-mul, mul-le-mul-left, mul-le-mul-right, mul-lt-mul-of-pos-left, mul-pos}
 use native.Mathlib.Omega.{arith}
 use lib.Dec.{T}
 use Rattle.decide.proofs.Truth.{either}
@@ -66,3 +66,19 @@ place-injective S c d h k e a =
     pick x y z x-axis = x
     pick x y z y-axis = y
     pick x y z z-axis = z
+
+volume-grows : (S R : ℕ) → S < R → volume S < volume R
+volume-grows S R h =
+    let square : S * S ≤ R * R = mul-le-mul (le-of-lt h) (le-of-lt h) in
+    let cube : S * S * S ≤ R * R * S = mul-le-mul-right S square in
+    lt-of-le-of-lt cube (mul-lt-mul-of-pos-left h (mul-pos (pos-of-lt h) (pos-of-lt h)))
+  where
+    pos-of-lt : {a b : ℕ} → a < b → 0 < b
+    pos-of-lt l = omega arith
+
+-- A grid is the cube of one side only.
+pub volume-injective : (S R : ℕ) → volume S ≡ volume R → S ≡ R
+volume-injective S R e =
+    let up : ¬ (S < R) = λ h. omega (arith, volume-grows S R h) in
+    let down : ¬ (R < S) = λ h. omega (arith, volume-grows R S h) in
+    omega arith

@@ -1,8 +1,9 @@
 -- `Cube`: places of cells. `Samples`: the samples that a drawing goes through. `Marked`: what a grid holds after marks. `Accepted`: what acceptance
--- says. `Cells`: the cells of an accepted object. `Orders`: the refusal numbers in document 01's order.
+-- says. `Cells`: the cells of an accepted object. `Orders`: the refusal numbers in document 01's order. `Drawn`: one drawing in words.
 pub mod Cube
 pub mod Samples
 pub mod Marked
 pub mod Accepted
 pub mod Cells
 pub mod Orders
+pub mod Drawn

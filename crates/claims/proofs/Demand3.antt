@@ -1,0 +1,105 @@
+-- Demand 3 holds. Curve draws and patch draws supply what the list argument asks, since the cells of a drawable object are within half a cell of its
+-- samples, inside the cube, and at places of their own.
+use mathlib.Core.Path.{_≡_, refl, sym, _∙_, ap, subst}
+use mathlib.Core.Logic.{_⊎_, inl, inr, ⊎-elim}
+use mathlib.Core.List.{List, [], _∷_, _++_, List·Memᴰ}
+use Prim.Native.Nat.{ℕ, _<_}
+use lib.Dec.{T}
+use lib.ListN.{length, getD}
+use Rattle.bezier.specs.Exact.{Sample}
+use Rattle.decide.specs.Refusal.{accepted}
+use Rattle.walk.specs.Walk.{withinHalf}
+use Rattle.drawing.specs.Cube.{Axis, Cell, Inside, place, volume}
+use Rattle.drawing.specs.Object.{Object, unit, exact, cellOf}
+use Rattle.drawing.specs.Refusals.{drawVerdict, Drawable}
+use Rattle.drawing.specs.Drawing.{drawn}
+use Rattle.drawing.proofs.Cube.{place-below, place-injective, volume-injective}
+use Rattle.drawing.proofs.Accepted.{draw-accepted}
+use Rattle.drawing.proofs.Cells.{cell-within, cell-inside, cells-next-to}
+use Rattle.drawing.proofs.Drawn.{PlaceOfSample, length-drawn, drawn-holds, drawn-there}
+use Rattle.claims.specs.Demand3.{Call, sideOf, objectOf, inTurn, run, Accepted, SampleNear, MarkOfNearObject, JustDrawn, Demand3, Claim}
+use Rattle.claims.proofs.Turns.{Supplies, MarkedBy, turns-length, turns-keep-or-mark, turns-last}
+
+-- A byte is a call's mark, and its place is that of the cell of one of the call's samples.
+pub record MarksPlace (call : Call) (q byte : ℕ) : Type 0 where
+  pub its-mark : byte ≡ objectOf call .mark
+  pub its-place : PlaceOfSample (sideOf call) (objectOf call) q
+
+-- What curve draws and patch draws supply.
+abbrev calls-supply : Supplies Call
+calls-supply = record {
+  draw = λ call. drawn (sideOf call) (objectOf call);
+  Good = Accepted;
+  Marks = MarksPlace;
+  keeps-length = λ call grid. length-drawn (sideOf call) (objectOf call) grid;
+  keeps-or-marks = λ call grid q h.
+      ⊎-elim (λ kept. inl kept) (λ w. inr (w .0, record { its-mark = w .2; its-place = w .1 }))
+      (drawn-holds (sideOf call) (objectOf call) grid q h);
+}
+
+module _ (S : ℕ) (start : List ℕ) (cube : length start ≡ volume S) where
+  -- An accepted call has the cube's side.
+  side-same : (call : Call) → Accepted (length start) call → sideOf call ≡ S
+  side-same call e =
+      volume-injective (sideOf call) S (sym (draw-accepted (sideOf call) (objectOf call) (length start) .0 e .1) ∙ cube)
+
+  drawable : (call : Call) → Accepted (length start) call → Drawable S (objectOf call)
+  drawable call e =
+      subst (λ side. Drawable side (objectOf call)) (side-same call e)
+      (draw-accepted (sideOf call) (objectOf call) (length start) .0 e .0)
+
+  each-cell : (calls : List Call) (c : Cell) → Inside S c →
+      (getD (run calls start) (place S c) 0 ≡ getD start (place S c) 0) ⊎
+      MarkOfNearObject (length start) calls c (getD (run calls start) (place S c) 0)
+  unfolding run
+  each-cell calls c inside =
+      ⊎-elim (λ kept. inl kept) (λ m. inr (near m))
+      (turns-keep-or-mark calls-supply calls start (place S c) (rw cube (place-below S c inside)))
+    where
+      near : MarkedBy calls-supply calls (length start) (place S c) (getD (run calls start) (place S c) 0) →
+          MarkOfNearObject (length start) calls c (getD (run calls start) (place S c) 0)
+      near m =
+          let o : Object = objectOf (m .by) in
+          let d = drawable (m .by) (m .good) in
+          let p = m .marks .its-place in
+          let places : place S c ≡ place S (cellOf o (p .sample)) =
+          p .at ∙ ap (λ side. place side (cellOf o (p .sample))) (side-same (m .by) (m .good)) in
+          let same = place-injective S c (cellOf o (p .sample)) inside (cell-inside d (p .is-sample)) places in
+          record {
+            call = m .by;
+            of-the-list = m .of-list;
+            is-accepted = m .good;
+            its-mark = m .marks .its-mark;
+            sample = p .sample;
+            is-sample = p .is-sample;
+            is-near = λ a. subst (λ k. T (withinHalf (unit o) k (exact o a (p .sample)))) (sym (same a))
+                (cell-within d (p .is-sample) a);
+          }
+
+  each-object : (before : List Call) (call : Call) → Accepted (length start) call →
+      JustDrawn S (objectOf call) (run (before ++ call ∷ []) start)
+  unfolding run
+  each-object before call e =
+      let o : Object = objectOf call in
+      let d = drawable call e in
+      let last = turns-last calls-supply before call start in
+      let then : Accepted (length (run before start)) call =
+      subst (λ len. Accepted len call) (sym (turns-length calls-supply before start)) e in
+      record {
+        in-the-cube = λ b. cell-inside d b;
+        within-half-a-cell = λ b. cell-within d b;
+        holding-its-mark = λ {sample = is} b.
+            ap (λ grid. getD grid (place S (cellOf o is)) 0) last ∙
+            subst (λ side. getD (drawn (sideOf call) o (run before start)) (place side (cellOf o is)) 0 ≡ o .mark)
+            (side-same call e) (drawn-there (sideOf call) o (run before start) then b);
+        by-at-most-one = λ f a. cells-next-to o f a;
+      }
+
+-- Demand 3.
+pub claim : Claim
+claim = record {
+  demand-3 = λ S start cube calls. record {
+    each-cell = each-cell S start cube calls;
+    each-object = λ before after call splits e. each-object S start cube before call e;
+  };
+}

@@ -1,0 +1,46 @@
+-- Demand 3 speaks of something: an accepted curve exists, a refused one leaves the grid, and a later stroke over an earlier one leaves both marks in
+-- view. Computed, in a cube of side 2.
+use mathlib.Core.Path.{_≡_, refl}
+use mathlib.Core.List.{List, [], _∷_}
+use Prim.Native.Nat.{ℕ}
+use lib.ListN.{length}
+use Rattle.bezier.specs.Exact.{blend, scale, points, value}
+use Rattle.decide.specs.Some.{someBelow, someOf}
+use Rattle.decide.specs.Refusal.{accepted, refused, firstThat}
+use Rattle.walk.specs.Walk.{withinHalf, towards, move, walk, cell}
+use Rattle.walk.specs.Steps.{farApart, someSample, tooLong}
+use Rattle.drawing.specs.Cube.{someAxis, sideOut, place}
+use Rattle.drawing.specs.Object.{offset, coordinate, exact, cellOf}
+use Rattle.drawing.specs.Refusals.{countOut, coordinateOut, stepsTooLong, order, drawVerdict}
+use Rattle.drawing.specs.Drawing.{row, rows, samples, marked, cells, drawn}
+use Rattle.claims.specs.Demand3.{Call, draw-curve, draw-patch, inTurn, run, Accepted}
+
+-- Along x from (0, 0, 0) to (1, 0, 0), and along y from (0, 0, 0) to (0, 1, 0), in one step each.
+abbrev along-x : ℕ → Call
+along-x mark = draw-curve 2 1 (0 ∷ 0 ∷ 0 ∷ 0 ∷ 0 ∷ 0 ∷ 1 ∷ 0 ∷ 0 ∷ 1 ∷ 0 ∷ 0 ∷ []) mark
+
+abbrev along-y : ℕ → Call
+along-y mark = draw-curve 2 1 (0 ∷ 0 ∷ 0 ∷ 0 ∷ 0 ∷ 0 ∷ 0 ∷ 1 ∷ 0 ∷ 0 ∷ 1 ∷ 0 ∷ []) mark
+
+-- A cube of side 2 that holds the bytes 1 to 8.
+abbrev held : List ℕ
+held = 1 ∷ 2 ∷ 3 ∷ 4 ∷ 5 ∷ 6 ∷ 7 ∷ 8 ∷ []
+
+-- An accepted curve.
+pub is-accepted : Accepted (length held) (along-x 100)
+unfolding blend scale points value someBelow someOf firstThat farApart someSample tooLong someAxis sideOut offset coordinate exact
+    countOut coordinateOut stepsTooLong order drawVerdict
+is-accepted = refl
+
+-- Mark 0 is refused, and the grid keeps what it held.
+pub refused-leaves : run (along-x 0 ∷ []) held ≡ held
+unfolding blend scale points value someBelow someOf firstThat farApart someSample tooLong someAxis sideOut offset coordinate exact
+    countOut coordinateOut stepsTooLong order drawVerdict inTurn run drawn
+refused-leaves = refl
+
+-- The second stroke takes the cell that both pass; the first keeps its other cell, and every other cell keeps its byte.
+pub later-over-earlier : run (along-x 100 ∷ along-y 200 ∷ []) held ≡ 200 ∷ 100 ∷ 200 ∷ 4 ∷ 5 ∷ 6 ∷ 7 ∷ 8 ∷ []
+unfolding blend scale points value someBelow someOf firstThat withinHalf towards move walk cell farApart someSample tooLong
+    someAxis sideOut place offset coordinate exact cellOf countOut coordinateOut stepsTooLong order drawVerdict row rows samples
+    marked cells drawn inTurn run
+later-over-earlier = refl

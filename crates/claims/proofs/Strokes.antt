@@ -1,0 +1,28 @@
+-- The strokes of a sheet are a list of calls that starts from an unmarked cube, so demand 3 speaks of them.
+use mathlib.Core.Path.{_≡_, refl, sym, _∙_, ap, subst}
+use mathlib.Core.Logic.{_⊎_, inl, inr, ⊎-elim}
+use mathlib.Core.List.{List, [], _∷_, _++_, map, map-append}
+use Prim.Native.Nat.{ℕ, _<_}
+use lib.ListN.{length, getD, replicate, length-replicate, getD-replicate}
+use Rattle.drawing.specs.Cube.{Cell, Inside, place, volume}
+use Rattle.drawing.proofs.Cube.{place-below}
+use Rattle.claims.specs.Demand3.{run, Accepted, MarkOfNearObject, JustDrawn, Demand3}
+use Rattle.claims.specs.Strokes.{Stroke, unmarked, callOf, drawing, StrokesDrawn}
+use Rattle.claims.proofs.Demand3.{claim}
+
+pub strokes-drawn : (S : ℕ) (strokes : List Stroke) → StrokesDrawn S strokes
+strokes-drawn S strokes =
+    let cube : length (unmarked S) ≡ volume S = length-replicate (volume S) 0 in
+    let all : (l : List Stroke) → Demand3 S (unmarked S) (map (callOf S) l) =
+    λ l. claim .demand-3 S (unmarked S) cube (map (callOf S) l) in
+    record {
+      each-cell = λ c inside.
+          ⊎-elim (λ kept. inl (kept ∙ getD-replicate (volume S) (place S c) 0 0 (place-below S c inside)))
+          (λ m. inr (subst (λ len. MarkOfNearObject len (map (callOf S) strokes) c
+          (getD (drawing S strokes) (place S c) 0)) cube m))
+          (all strokes .each-cell c inside);
+      each-stroke = λ before after s splits e.
+          rw (map-append (callOf S) before (s ∷ []))
+          (all (before ++ s ∷ []) .each-object (map (callOf S) before) [] (callOf S s)
+          (map-append (callOf S) before (s ∷ [])) (rw cube e));
+    }

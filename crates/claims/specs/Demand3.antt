@@ -1,0 +1,78 @@
+-- Demand 3, with "The words of demand 3" of document 01: one claim about a whole list of calls that draw into one cube.
+use mathlib.Core.Path.{_≡_}
+use mathlib.Core.Logic.{_⊎_}
+use mathlib.Core.List.{List, [], _∷_, _++_, List·Memᴰ}
+use Prim.Native.Nat.{ℕ}
+use lib.Dec.{T}
+use lib.ListN.{length, getD}
+use Rattle.bezier.specs.Exact.{Sample}
+use Rattle.decide.specs.Refusal.{accepted}
+use Rattle.walk.specs.Walk.{withinHalf, NextTo}
+use Rattle.walk.specs.Steps.{Follows}
+use Rattle.drawing.specs.Cube.{Axis, Cell, Inside, place, volume}
+use Rattle.drawing.specs.Object.{Object, curve, patch, unit, exact, cellOf}
+use Rattle.drawing.specs.Refusals.{drawVerdict}
+use Rattle.drawing.specs.Drawing.{drawn}
+
+-- The list holds curve draws and patch draws, each with any side and any record.
+pub data Call : Type 0 where
+  draw-curve : (side n : ℕ) (points : List ℕ) (mark : ℕ) → Call
+  draw-patch : (side n m : ℕ) (points : List ℕ) (mark : ℕ) → Call
+
+abbrev pub sideOf : Call → ℕ
+sideOf (draw-curve side n points mark) = side
+sideOf (draw-patch side n m points mark) = side
+
+abbrev pub objectOf : Call → Object
+objectOf (draw-curve side n points mark) = curve n points mark
+objectOf (draw-patch side n m points mark) = patch n m points mark
+
+-- Each call gets the grid as the last one left it.
+unfoldable pub inTurn : {C : Type 0} (draw : C → List ℕ → List ℕ) → List C → List ℕ → List ℕ
+inTurn draw [] grid = grid
+inTurn draw (call ∷ calls) grid = inTurn draw calls (draw call grid)
+
+-- The grid after a list of calls, refused ones included.
+unfoldable pub run : List Call → List ℕ → List ℕ
+run = inTurn (λ call. drawn (sideOf call) (objectOf call))
+
+-- An object is accepted if no number in its own call's drawing order applies, judged by the arguments and the grid's length alone.
+abbrev pub Accepted : (gridLength : ℕ) → Call → Type 0
+Accepted gridLength call = drawVerdict (sideOf call) gridLength (objectOf call) ≡ accepted
+
+-- A sample lies within half a cell of a cell on every axis.
+abbrev pub SampleNear : (o : Object) (sample : List ℕ) (c : Cell) → Type 0
+SampleNear o sample c = (a : Axis) → T (withinHalf (unit o) (c a) (exact o a sample))
+
+-- A byte is the mark of an accepted object of the list that has an exact sample within half a cell of the cell on every axis.
+pub record MarkOfNearObject (gridLength : ℕ) (calls : List Call) (c : Cell) (byte : ℕ) : Type 0 where
+  pub call : Call
+  pub of-the-list : List·Memᴰ call calls
+  pub is-accepted : Accepted gridLength call
+  pub its-mark : byte ≡ objectOf call .mark
+  pub sample : List ℕ
+  pub is-sample : Sample (objectOf call .counts) sample
+  pub is-near : SampleNear (objectOf call) sample c
+
+-- Just after an object is drawn into a cube of side S: every one of its exact samples has its cell in the cube, within half a cell on every axis
+-- and holding its mark, and two cells that follow one another differ by at most one on every axis.
+pub record JustDrawn (S : ℕ) (o : Object) (grid : List ℕ) : Type 0 where
+  pub in-the-cube : {sample : List ℕ} → Sample (o .counts) sample → Inside S (cellOf o sample)
+  pub within-half-a-cell : {sample : List ℕ} → Sample (o .counts) sample → SampleNear o sample (cellOf o sample)
+  pub holding-its-mark : {sample : List ℕ} → Sample (o .counts) sample → getD grid (place S (cellOf o sample)) 0 ≡ o .mark
+  pub by-at-most-one : {sample next : List ℕ} → Follows (o .counts) sample next → (a : Axis) →
+      NextTo (cellOf o sample a) (cellOf o next a)
+
+-- The two sentences of demand 3, for a list of calls into a cube of side S that holds the bytes `start`.
+pub record Demand3 (S : ℕ) (start : List ℕ) (calls : List Call) : Type 0 where
+  -- After the list, each cell holds what it held at the start, or the mark of an accepted object near it.
+  pub each-cell : (c : Cell) → Inside S c →
+      (getD (run calls start) (place S c) 0 ≡ getD start (place S c) 0) ⊎
+      MarkOfNearObject (length start) calls c (getD (run calls start) (place S c) 0)
+  -- Just after each accepted object of the list, wherever it stands in it.
+  pub each-object : (before after : List Call) (call : Call) → calls ≡ before ++ call ∷ after →
+      Accepted (length start) call → JustDrawn S (objectOf call) (run (before ++ call ∷ []) start)
+
+-- Demand 3: for every list of calls and whatever bytes the cube held at the start.
+pub record Claim : Type 0 where
+  pub demand-3 : (S : ℕ) (start : List ℕ) → length start ≡ volume S → (calls : List Call) → Demand3 S start calls

@@ -1,0 +1,35 @@
+-- Document 01, "The words of demand 3": an accepted sheet counts as a list of its own, the curve draws of its lines, in turn, into an unmarked cube.
+use mathlib.Core.Path.{_≡_}
+use mathlib.Core.Logic.{_⊎_}
+use mathlib.Core.List.{List, [], _∷_, _++_, map}
+use Prim.Native.Nat.{ℕ}
+use lib.ListN.{length, getD, replicate}
+use Rattle.drawing.specs.Cube.{Cell, Inside, place, volume}
+use Rattle.drawing.specs.Object.{Object, curve}
+use Rattle.claims.specs.Demand3.{Call, draw-curve, run, Accepted, MarkOfNearObject, JustDrawn}
+
+-- A curve line: its step count, the coordinates of its points and its mark.
+pub record Stroke : Type 0 where
+  pub steps : ℕ
+  pub points : List ℕ
+  pub mark : ℕ
+
+-- A cube with no mark.
+abbrev pub unmarked : (S : ℕ) → List ℕ
+unmarked S = replicate (volume S) 0
+
+abbrev pub callOf : (S : ℕ) → Stroke → Call
+callOf S s = draw-curve S (s .steps) (s .points) (s .mark)
+
+-- The cube after the strokes.
+abbrev pub drawing : (S : ℕ) → List Stroke → List ℕ
+drawing S strokes = run (map (callOf S) strokes) (unmarked S)
+
+-- Demand 3 for strokes: each cell is unmarked or holds the mark of a stroke near it; and so it is just after each stroke.
+pub record StrokesDrawn (S : ℕ) (strokes : List Stroke) : Type 0 where
+  pub each-cell : (c : Cell) → Inside S c →
+      (getD (drawing S strokes) (place S c) 0 ≡ 0) ⊎
+      MarkOfNearObject (volume S) (map (callOf S) strokes) c (getD (drawing S strokes) (place S c) 0)
+  pub each-stroke : (before after : List Stroke) (s : Stroke) → strokes ≡ before ++ s ∷ after →
+      Accepted (volume S) (callOf S s) →
+      JustDrawn S (curve (s .steps) (s .points) (s .mark)) (drawing S (before ++ s ∷ []))

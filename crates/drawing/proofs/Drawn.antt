@@ -1,0 +1,87 @@
+-- One drawing in words: a refused one leaves the grid; an accepted one leaves its length, marks every sample's cell, and leaves every other byte.
+use mathlib.Core.Path.{_≡_, refl, sym, _∙_, ap}
+use mathlib.Core.Logic.{_⊎_, inl, inr, ⊎-elim}
+use mathlib.Core.List.{List, [], _∷_, map, List·Memᴰ, Memᴰ·map, Memᴰ·of-map}
+use Prim.Native.Nat.{ℕ, _<_}
+use lib.ListN.{length, getD}
+use Rattle.bezier.specs.Exact.{Sample}
+use Rattle.decide.specs.Refusal.{Verdict, accepted, refused}
+use Rattle.drawing.specs.Cube.{Inside, place, volume}
+use Rattle.drawing.specs.Object.{Object, cellOf}
+use Rattle.drawing.specs.Refusals.{drawVerdict, Drawable}
+use Rattle.drawing.specs.Drawing.{samples, marked, leaves, cells, drawn}
+use Rattle.drawing.proofs.Cube.{place-below}
+use Rattle.drawing.proofs.Samples.{sample-listed, listed-sample}
+use Rattle.drawing.proofs.Marked.{length-marked, marked-holds, marked-there}
+use Rattle.drawing.proofs.Accepted.{draw-accepted}
+use Rattle.drawing.proofs.Cells.{cell-inside}
+
+-- Byte q is the place of a sample's cell.
+pub record PlaceOfSample (S : ℕ) (o : Object) (q : ℕ) : Type 0 where
+  pub sample : List ℕ
+  pub is-sample : Sample (o .counts) sample
+  pub at : q ≡ place S (cellOf o sample)
+
+module _ (S : ℕ) (o : Object) (grid : List ℕ) where
+  -- What an accepted drawing leaves.
+  after : List ℕ
+  after = marked (o .mark) (map (place S) (cells o)) grid
+
+  -- A refused drawing leaves the grid.
+  pub drawn-refused : {k : ℕ} → drawVerdict S (length grid) o ≡ refused k → drawn S o grid ≡ grid
+  unfolding drawn
+  drawn-refused e = rw e
+
+  drawn-accepted : drawVerdict S (length grid) o ≡ accepted → drawn S o grid ≡ after
+  unfolding drawn after
+  drawn-accepted e = rw e
+
+  -- A drawing is accepted or refused.
+  by-verdict : (P : Type 0) → (drawVerdict S (length grid) o ≡ accepted → P) → (drawn S o grid ≡ grid → P) → P
+  by-verdict P f g = go (drawVerdict S (length grid) o) refl
+    where
+      go : (v : Verdict) → drawVerdict S (length grid) o ≡ v → P
+      go accepted e = f e
+      go (refused k) e = g (drawn-refused e)
+
+  -- The grid keeps its length.
+  pub length-drawn : length (drawn S o grid) ≡ length grid
+  unfolding after
+  length-drawn =
+      by-verdict (length (drawn S o grid) ≡ length grid)
+      (λ e. rw (drawn-accepted e) (length-marked (o .mark) (map (place S) (cells o)) grid))
+      (λ e. ap length e)
+
+  of-sample : {q : ℕ} → List·Memᴰ q (map (place S) (cells o)) → PlaceOfSample S o q
+  unfolding cells
+  of-sample {q} m =
+      let c = Memᴰ·of-map (place S) (map (cellOf o) (samples (o .counts))) m in
+      let s = Memᴰ·of-map (cellOf o) (samples (o .counts)) (c .1) in
+      record {
+        sample = s .0;
+        is-sample = listed-sample (o .counts) (s .0) (s .1);
+        at = sym (c .2) ∙ ap (place S) (sym (s .2));
+      }
+
+  -- Each byte holds what it held, or the drawing is accepted and the byte is the place of a sample's cell and holds the mark.
+  pub drawn-holds : (q : ℕ) → q < length grid →
+      (getD (drawn S o grid) q 0 ≡ getD grid q 0) ⊎
+      ((drawVerdict S (length grid) o ≡ accepted) × PlaceOfSample S o q × (getD (drawn S o grid) q 0 ≡ o .mark))
+  unfolding after
+  drawn-holds q h =
+      by-verdict _
+      (λ e. rw (drawn-accepted e)
+      (⊎-elim (λ kept. inl kept) (λ w. inr (e, of-sample (w .0), w .1))
+      (marked-holds (o .mark) (map (place S) (cells o)) grid q h)))
+      (λ e. inl (ap (λ l. getD l q 0) e))
+
+  -- After an accepted drawing every sample's cell holds the mark.
+  pub drawn-there : drawVerdict S (length grid) o ≡ accepted → {is : List ℕ} → Sample (o .counts) is →
+      getD (drawn S o grid) (place S (cellOf o is)) 0 ≡ o .mark
+  unfolding after cells
+  drawn-there e {is} b =
+      let w = draw-accepted S o (length grid) .0 e in
+      rw (drawn-accepted e)
+      (marked-there (o .mark) grid
+      (rw (w .1) (place-below S (cellOf o is) (cell-inside (w .0) b)))
+      (Memᴰ·map (place S) (Memᴰ·map (cellOf o) (sample-listed b))))
