@@ -75,3 +75,8 @@ passed-over (there a f) other = (a, f)
 -- The only rule left is the one that applies.
 pub only-left : {k : ℕ} {r : Rule} → FirstApplies k (r ∷ []) → r .applies ≡ true
 only-left (here a e) = a
+
+-- A call is accepted, or refused with some number.
+pub by-verdict : (v : Verdict) (P : Type 0) → (v ≡ accepted → P) → ((k : ℕ) → v ≡ refused k → P) → P
+by-verdict accepted P f g = f refl
+by-verdict (refused k) P f g = g k refl

@@ -5,7 +5,8 @@ use mathlib.Core.List.{List, [], _∷_, map, List·Memᴰ, Memᴰ·map, Memᴰ·
 use Prim.Native.Nat.{ℕ, _<_}
 use lib.ListN.{length, getD}
 use Rattle.bezier.specs.Exact.{Sample}
-use Rattle.decide.specs.Refusal.{Verdict, accepted, refused}
+use Rattle.decide.specs.Refusal.{accepted, refused}
+use Rattle.decide.proofs.Refusal.{by-verdict}
 use Rattle.drawing.specs.Cube.{Inside, place, volume}
 use Rattle.drawing.specs.Object.{Object, cellOf}
 use Rattle.drawing.specs.Refusals.{drawVerdict, Drawable}
@@ -36,21 +37,13 @@ module _ (S : ℕ) (o : Object) (grid : List ℕ) where
   unfolding drawn after
   drawn-accepted e = rw e
 
-  -- A drawing is accepted or refused.
-  by-verdict : (P : Type 0) → (drawVerdict S (length grid) o ≡ accepted → P) → (drawn S o grid ≡ grid → P) → P
-  by-verdict P f g = go (drawVerdict S (length grid) o) refl
-    where
-      go : (v : Verdict) → drawVerdict S (length grid) o ≡ v → P
-      go accepted e = f e
-      go (refused k) e = g (drawn-refused e)
-
   -- The grid keeps its length.
   pub length-drawn : length (drawn S o grid) ≡ length grid
   unfolding after
   length-drawn =
-      by-verdict (length (drawn S o grid) ≡ length grid)
+      by-verdict (drawVerdict S (length grid) o) _
       (λ e. rw (drawn-accepted e) (length-marked (o .mark) (map (place S) (cells o)) grid))
-      (λ e. ap length e)
+      (λ k e. ap length (drawn-refused e))
 
   of-sample : {q : ℕ} → List·Memᴰ q (map (place S) (cells o)) → PlaceOfSample S o q
   unfolding cells
@@ -69,11 +62,11 @@ module _ (S : ℕ) (o : Object) (grid : List ℕ) where
       ((drawVerdict S (length grid) o ≡ accepted) × PlaceOfSample S o q × (getD (drawn S o grid) q 0 ≡ o .mark))
   unfolding after
   drawn-holds q h =
-      by-verdict _
+      by-verdict (drawVerdict S (length grid) o) _
       (λ e. rw (drawn-accepted e)
       (⊎-elim (λ kept. inl kept) (λ w. inr (e, of-sample (w .0), w .1))
       (marked-holds (o .mark) (map (place S) (cells o)) grid q h)))
-      (λ e. inl (ap (λ l. getD l q 0) e))
+      (λ k e. inl (ap (λ l. getD l q 0) (drawn-refused e)))
 
   -- After an accepted drawing every sample's cell holds the mark.
   pub drawn-there : drawVerdict S (length grid) o ≡ accepted → {is : List ℕ} → Sample (o .counts) is →

@@ -1,5 +1,5 @@
 -- `Cube`: places of cells. `Samples`: the samples that a drawing goes through. `Marked`: what a grid holds after marks. `Accepted`: what acceptance
--- says. `Cells`: the cells of an accepted object. `Orders`: the refusal numbers in document 01's order. `Drawn`: one drawing in words.
+-- says. `Cells`: the cells of an accepted object. `Orders`: the refusal numbers in document 01's order. `Drawn`: one drawing in words. `Listed`: one listing.
 pub mod Cube
 pub mod Samples
 pub mod Marked
@@ -7,3 +7,4 @@ pub mod Accepted
 pub mod Cells
 pub mod Orders
 pub mod Drawn
+pub mod Listed

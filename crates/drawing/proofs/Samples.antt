@@ -56,7 +56,8 @@ listed-sample (n ∷ ns) is m =
     let w = of-rows n (samples ns) is m in
     rw (w .4) (index (w .2) (listed-sample ns (w .1) (w .3)))
 
-length-row : (n : ℕ) (is : List ℕ) → length (row n is) ≡ suc n
+-- A row has n + 1 samples.
+pub length-row : (n : ℕ) (is : List ℕ) → length (row n is) ≡ suc n
 unfolding row
 length-row zero is = refl
 length-row (suc n) is = rw (length-append, length-row n is) (omega arith)
