@@ -1,0 +1,971 @@
+"""A separate model of the key box, from document 01: every sample is summed directly from its Bernstein weights.
+
+Whole numbers and fractions are exact throughout; there are no differences and no remainders here.  Imported, the module
+gives the expected answers of test programs.  Run as `python3 tests/model.py`, it checks itself on document 01's samples
+and exits with 1 if a check fails.  Quoted words are document 01's, and for demand 3 also the demand's own.
+"""
+
+import random
+import re
+import struct
+import sys
+from fractions import Fraction
+from functools import lru_cache
+from io import BytesIO
+from itertools import product
+from math import prod
+from typing import NamedTuple, Optional, Tuple
+
+# The colour cube
+
+
+def place(side, cell):
+    """A cell (x, y, z) "stands at byte x + S × y + S × S × z"."""
+    x, y, z = cell
+    return x + side * y + side * side * z
+
+
+class Record(NamedTuple):
+    """A curve (counts (n,), 4 points) or a patch (counts (n, m), 16 points): x y z of point 0, of point 1, .."""
+
+    coordinates: Tuple[int, ...]
+    counts: Tuple[int, ...]
+    mark: int
+
+
+def curve(coordinates, n, mark):
+    """A curve: "twelve coordinates (x, y, z of points 0 to 3), with its step count n .. and its mark"."""
+    return Record(tuple(coordinates), (n,), mark)
+
+
+def patch(coordinates, n, m, mark):
+    """A patch: "counts n along t and m along u", "g(i, j) is its point number 4 × i + j"."""
+    return Record(tuple(coordinates), (n, m), mark)
+
+
+# Exact samples: a value is a pair (numerator, scale)
+
+
+def bernstein(n, i):
+    """The cubic Bernstein weights at i / n, times n³: "(n-i)³", "3 × i × (n-i)²", "3 × i² × (n-i)", "i³"."""
+    return (n - i) ** 3, 3 * i * (n - i) ** 2, 3 * i**2 * (n - i), i**3
+
+
+def scale(counts):
+    """The scale N: "n × n × n", and for a patch "n³ × m³"."""
+    return prod(n**3 for n in counts)
+
+
+def weights(counts, indices):
+    """Each control point's weight in a sample, by point number: the product of its weights along every parameter."""
+    along = (bernstein(n, i) for n, i in zip(counts, indices, strict=True))
+    return [prod(choice) for choice in product(*along)]
+
+
+def value(counts, indices, controls):
+    """The "exact value B / N" of one axis at one sample, for any number of parameters, as (B, N)."""
+    blended = sum(w * g for w, g in zip(weights(counts, indices), controls, strict=True))
+    return blended, scale(counts)
+
+
+@lru_cache(maxsize=2)
+def samples(record):
+    """The exact x, y, z of every sample of a record, by its indices (i,) or (i, j)."""
+    controls = [record.coordinates[axis::3] for axis in range(3)]
+    return {
+        indices: tuple(value(record.counts, indices, axis) for axis in controls)
+        for indices in product(*(range(n + 1) for n in record.counts))
+    }
+
+
+def shifted(indices, parameter, by):
+    """The indices of the sample that lies `by` samples further along one parameter."""
+    return indices[:parameter] + (indices[parameter] + by,) + indices[parameter + 1 :]
+
+
+# The walk
+
+
+def within_half(exact, coordinate):
+    """Whether "its exact value and the cell's coordinate differ by at most a half, a half itself included"."""
+    numerator, denominator = exact
+    return 2 * abs(numerator - denominator * coordinate) <= denominator
+
+
+def move(coordinate, exact):
+    """Within half a cell "the coordinate stays; otherwise it moves by one towards the value"."""
+    if within_half(exact, coordinate):
+        return coordinate
+    numerator, denominator = exact
+    return coordinate + 1 if numerator > denominator * coordinate else coordinate - 1
+
+
+def sample_before(indices):
+    """The sample walked from: along t, or at t = 0 along u, the one before; None for sample 0."""
+    moved = [parameter for parameter, i in enumerate(indices) if i > 0]
+    return shifted(indices, moved[0], -1) if moved else None
+
+
+def cells(record):
+    """The cell of every sample, by its indices: "the cell of sample 0 is point 0", the others are walked to."""
+    walked = {}
+    for indices, exact in samples(record).items():
+        before = sample_before(indices)
+        walked[indices] = record.coordinates[:3] if before is None else tuple(map(move, walked[before], exact))
+    return walked
+
+
+def row(walked, *j):
+    """The cells along t, in turn: row(walked) of a curve, row(walked, j) of row j of a patch."""
+    return [cell for indices, cell in sorted(walked.items()) if indices[1:] == j]
+
+
+def long_step(exact, following):
+    """Whether two values lie "more than one cell apart"; "exactly one cell apart is allowed"."""
+    return abs(exact[0] - following[0]) > exact[1]
+
+
+def steps_too_long(record):
+    """Whether "some two neighbouring samples lie more than one cell apart on an axis", along t or u, anywhere."""
+    exact = samples(record)
+    neighbours = (
+        (exact[indices], exact[shifted(indices, parameter, 1)])
+        for indices in exact
+        for parameter, n in enumerate(record.counts)
+        if indices[parameter] < n
+    )
+    return any(any(map(long_step, here, there)) for here, there in neighbours)
+
+
+# Drawing and listing
+
+
+class Answer(NamedTuple):
+    """The refusal number or None, the count if accepted, and what the lent grid or list holds afterwards."""
+
+    refusal: Optional[int]
+    count: Optional[int]
+    lent: bytes
+
+
+STEP_LIMITS = {1: 512, 2: 256}  # by the number of parameters: a curve's "1 to 512", a patch's "each 1 to 256"
+
+
+def first_refusal(*ladder):
+    """Of pairs (number, test) "the first number that applies, and no number otherwise"."""
+    return next((number for number, applies in ladder if applies()), None)
+
+
+def count_out_of_range(record):
+    """13: "a step count outside its range"."""
+    return not all(1 <= n <= STEP_LIMITS[len(record.counts)] for n in record.counts)
+
+
+def drawing_refusal(side, record, grid_length):
+    """The order "11, 21, 12, 13, 22, 14, 15", where "a drawing has no list"."""
+    return first_refusal(
+        (11, lambda: not 2 <= side <= 64),
+        (21, lambda: grid_length != side**3),
+        (12, lambda: not 1 <= record.mark <= 255),
+        (13, lambda: count_out_of_range(record)),
+        (14, lambda: max(record.coordinates) >= side),
+        (15, lambda: steps_too_long(record)),
+    )
+
+
+def draw(side, record, grid):
+    """Draws a curve or a patch: "writes the mark in every sample's cell, nothing else", answers their number."""
+    refusal = drawing_refusal(side, record, len(grid))
+    if refusal is not None:
+        return Answer(refusal, None, bytes(grid))
+    drawn = bytearray(grid)
+    for cell in cells(record).values():
+        drawn[place(side, cell)] = record.mark
+    return Answer(None, prod(n + 1 for n in record.counts), bytes(drawn))
+
+
+def listing_refusal(side, record, list_length):
+    """The same order, where "a listing has no grid and ignores the record's mark"."""
+    return first_refusal(
+        (11, lambda: not 2 <= side <= 64),
+        (13, lambda: count_out_of_range(record)),
+        (22, lambda: list_length < 3 * (record.counts[0] + 1)),
+        (14, lambda: max(record.coordinates) >= side),
+        (15, lambda: steps_too_long(record)),
+    )
+
+
+def list_curve(side, record, lent):
+    """Lists a curve: "three bytes, x y z, for each sample in turn from the front", "leaves the rest"."""
+    (n,) = record.counts
+    refusal = listing_refusal(side, record, len(lent))
+    if refusal is not None:
+        return Answer(refusal, None, bytes(lent))
+    listed = bytes(coordinate for cell in row(cells(record)) for coordinate in cell)
+    return Answer(None, n + 1, listed + bytes(lent[len(listed) :]))
+
+
+# Swatches: an f32 is its 32-bit pattern
+
+
+class Rgb(NamedTuple):
+    """A swatch of "three f32 channels, red, green and blue"."""
+
+    red: int
+    green: int
+    blue: int
+
+
+class Grey(NamedTuple):
+    """A swatch of "a single f32 grey that stands for three equal channels"."""
+
+    grey: int
+
+
+INFINITY = 0x7F800000
+MINUS_ZERO = 0x80000000
+
+
+def decode(bits):
+    """The exact number that a pattern denotes (0 for minus zero); None if "infinite or no number"."""
+    exponent, fraction = bits >> 23 & 0xFF, bits & 0x7FFFFF
+    if exponent == 0xFF:
+        return None
+    if exponent > 0:
+        fraction += 1 << 23
+    magnitude = fraction * Fraction(2) ** (max(exponent, 1) - 150)
+    return -magnitude if bits >> 31 else magnitude
+
+
+def encode(exact):
+    """The pattern of the f32 nearest to an exact number not below 0, a tie going to the even pattern."""
+    if exact == 0:
+        return 0
+    power = exact.numerator.bit_length() - exact.denominator.bit_length()
+    if exact < Fraction(2) ** power:
+        power -= 1
+    exponent = max(power + 127, 1)
+    whole, rest = divmod(exact / Fraction(2) ** (exponent - 150), 1)
+    if 2 * rest > 1 or (2 * rest == 1 and whole % 2 == 1):
+        whole += 1
+    return min((exponent - 1 << 23) + whole, INFINITY)
+
+
+def channels(swatch):
+    """Red, green and blue of either kind of swatch."""
+    return Rgb(*swatch * 3) if isinstance(swatch, Grey) else swatch
+
+
+def channel_ladder(swatch):
+    """The numbers for "red, green, blue, each 31 then 32"; "minus zero counts as 0"."""
+    for bits in channels(swatch):
+        yield 31, lambda bits=bits: decode(bits) is None
+        yield 32, lambda bits=bits: not 0 <= decode(bits) <= 1
+
+
+def channel_coordinate(side, bits):
+    """An accepted channel's "whole number c with 2c - 1 < 2 × v × (S-1) ≤ 2c + 1"."""
+    doubled = 2 * decode(bits) * (side - 1)
+    return next(c for c in range(side) if 2 * c - 1 < doubled <= 2 * c + 1)
+
+
+def swatch_cell(side, swatch):
+    """(refusal, None) by the order "11, then red, green, blue", or (None, cell)."""
+    refusal = first_refusal((11, lambda: not 2 <= side <= 64), *channel_ladder(swatch))
+    if refusal is not None:
+        return refusal, None
+    return None, tuple(channel_coordinate(side, bits) for bits in channels(swatch))
+
+
+def half_way_channel(a, b):
+    """The pattern after "one f32 addition, rounded once, and then one multiplication by 0.5", rounded once."""
+    if a == b == MINUS_ZERO:
+        return MINUS_ZERO  # "two minus zeros give minus zero"
+    return encode(decode(encode(decode(a) + decode(b))) / 2)
+
+
+def half_way(first, second):
+    """(refusal, None) by the order "first swatch, then second", or (None, Rgb)."""
+    refusal = first_refusal(*channel_ladder(first), *channel_ladder(second))
+    if refusal is not None:
+        return refusal, None
+    return None, Rgb(*map(half_way_channel, channels(first), channels(second)))
+
+
+# The stroke sheet
+#
+# Points that document 01 leaves open, as decided here:
+# - A blank is byte 32 and a digit is one of bytes 48 to 57; a field with any other byte (tab, sign, carriage return) is
+#   bad, and so are five blanks.  A field is 5 bytes: a part of another length is bad.
+# - A line's length is counted without its line feed, 5 or 70.  A line of that length without line feed is 41 as well.
+# - Nothing follows the last line feed: a further line feed there is an empty line, 41 (or 44).
+# - Lines are judged in turn, each by its whole list of numbers, 15 included, before the next one is looked at.
+# - 44 stands at line 202, whatever the byte there, and only if lines 1 to 201 are all accepted.
+# - Fields are whole numbers up to 99999, not bytes: a mark above 255 is 12, a step count above 512 is 13, a coordinate
+#   above 255 is not below the side, 14, a side above 64 is 11.  All fourteen fields are tried for 42 before 12.
+# - After a refused call the buffer is not cleared either: it holds what it held.
+
+BUFFER_LENGTH = 64000
+CURVE_LINES = 200
+HEADING = b"    X    Y    Z MARK\n"
+FIELD = re.compile(rb" *(0|[1-9][0-9]*)")
+
+
+class SheetAnswer(NamedTuple):
+    """Refusal and line if refused, side and number of curve lines if accepted, and the buffer afterwards."""
+
+    refusal: Optional[int]
+    line: Optional[int]
+    side: Optional[int]
+    curves: Optional[int]
+    buffer: bytes
+
+
+def read_field(field):
+    """The digits of "a whole number in 5 columns, right-justified with blanks before it", "empty for a bad field"."""
+    found = FIELD.fullmatch(field)
+    return found.group(1) if found and len(field) == 5 else b""
+
+
+def read_line(line):
+    """The numbers of a line's fields, None for a bad field."""
+    text = line.removesuffix(b"\n")
+    digits = [read_field(text[start : start + 5]) for start in range(0, len(text), 5)]
+    return [int(part) if part else None for part in digits]
+
+
+def format_line(*numbers):
+    """A line of a sheet: each number in 5 columns, then a line feed."""
+    return b"".join(b"%5d" % number for number in numbers) + b"\n"
+
+
+def sheet_lines(text):
+    """The lines, each "to its line feed or to the end of the input", the line feed kept."""
+    return BytesIO(text).readlines()
+
+
+def wrong_length(line, fields):
+    """41: "a line of wrong length, a missing line feed"."""
+    return len(line) != 5 * fields + 1 or not line.endswith(b"\n")
+
+
+def line_curve(line):
+    """The curve of a line "mark, n, then x y z of points 0 to 3"."""
+    mark, n, *coordinates = read_line(line)
+    return curve(coordinates, n, mark)
+
+
+def side_line_refusal(line):
+    """The order of line 1: "41, 42, 11, 43"."""
+    return first_refusal(
+        (41, lambda: wrong_length(line, 1)),
+        (42, lambda: None in read_line(line)),
+        (11, lambda: not 2 <= read_line(line)[0] <= 64),
+        (43, lambda: read_line(line)[0] > 40),
+    )
+
+
+def curve_line_refusal(side, number, line):
+    """The order of a curve line: "44, 41, 42, then 12, 13, 14, 15", these four as for a drawing into the cube."""
+    refusal = first_refusal(
+        (44, lambda: number > 1 + CURVE_LINES),
+        (41, lambda: wrong_length(line, 14)),
+        (42, lambda: None in read_line(line)),
+    )
+    return drawing_refusal(side, line_curve(line), side**3) if refusal is None else refusal
+
+
+def draw_sheet(text, buffer):
+    """Draws into "the first S × S × S bytes of a lent buffer of exactly 64000 bytes, cleared to 0 first"."""
+    if len(buffer) != BUFFER_LENGTH:
+        return SheetAnswer(21, 0, None, None, bytes(buffer))
+    lines = sheet_lines(text) or [b""]  # no line 1 is refused as a line 1 of wrong length
+    refusal = side_line_refusal(lines[0])
+    if refusal is not None:
+        return SheetAnswer(refusal, 1, None, None, bytes(buffer))
+    side = read_line(lines[0])[0]
+    grid = bytes(side**3)
+    for number, line in enumerate(lines[1:], 2):
+        refusal = curve_line_refusal(side, number, line)
+        if refusal is not None:
+            return SheetAnswer(refusal, number, None, None, bytes(buffer))
+        grid = draw(side, line_curve(line), grid).lent
+    return SheetAnswer(None, None, side, len(lines) - 1, grid + bytes(buffer[len(grid) :]))
+
+
+def sheet_output(text):
+    """What the sheet program prints: "a heading, then x, y, z and mark of each marked cell, in rising byte place"."""
+    answer = draw_sheet(text, bytes(BUFFER_LENGTH))
+    if answer.refusal is not None:
+        return b"REFUSED" + format_line(answer.refusal, answer.line)
+    cube = product(range(answer.side), repeat=3)
+    by_place = sorted((place(answer.side, cell), cell) for cell in cube)
+    marked = ((*cell, answer.buffer[at]) for at, cell in by_place if answer.buffer[at] != 0)
+    return HEADING + b"".join(format_line(*numbers) for numbers in marked)
+
+
+# Demand 3, for a list of calls (side, record) and the grids before the first call and after each call
+
+
+def run(calls, grid):
+    """The start grid and the grid after each call: "each call gets the grid as the last one left it"."""
+    grids = [bytes(grid)]
+    for side, record in calls:
+        grids.append(draw(side, record, grids[-1]).lent)
+    return grids
+
+
+def samples_within_half(record, walked):
+    """Whether "every one of its exact samples has its cell within half a cell on every axis"."""
+    return all(all(map(within_half, exact, walked[indices])) for indices, exact in samples(record).items())
+
+
+def cells_hold_mark(side, record, walked, grid):
+    """Whether "every one of its exact samples has its cell .. holding its mark"."""
+    return all(grid[place(side, walked[indices])] == record.mark for indices in samples(record))
+
+
+def followers_adjacent(walked):
+    """Whether cells that "follow one another along a curve or a patch row differ by at most one on every axis"."""
+    pairs = ((cell, walked.get(shifted(indices, 0, 1), cell)) for indices, cell in walked.items())
+    return all(abs(a - b) <= 1 for here, there in pairs for a, b in zip(here, there, strict=True))
+
+
+def near_coordinates(exact):
+    """The one or two coordinates within half a cell of a value."""
+    below = exact[0] // exact[1]
+    return [c for c in (below, below + 1) if within_half(exact, c)]
+
+
+def places_near_samples(side, record):
+    """The places of all cells that have "an exact sample within half a cell" on every axis."""
+    return {
+        place(side, cell) for exact in samples(record).values() for cell in product(*map(near_coordinates, exact))
+    }
+
+
+def marks_explained(calls, start, end):
+    """Whether each cell holds its start byte or the mark of an accepted object with a sample within half of it."""
+    explained = {
+        (at, record.mark)
+        for side, record in calls
+        if drawing_refusal(side, record, len(start)) is None
+        for at in places_near_samples(side, record)
+    }
+    return all(old == new or (at, new) in explained for at, (old, new) in enumerate(zip(start, end, strict=True)))
+
+
+def demand_3(calls, grids, walk=cells):
+    """All of demand 3 for these calls and grids (`run` gives the model's own), the cells being those of `walk`."""
+    for (side, record), grid in zip(calls, grids[1:], strict=True):
+        if drawing_refusal(side, record, len(grid)) is None:
+            walked = walk(record)
+            if not (
+                samples_within_half(record, walked)
+                and cells_hold_mark(side, record, walked, grid)
+                and followers_adjacent(walked)
+            ):
+                return False
+    return marks_explained(calls, grids[0], grids[-1])
+
+
+# The self-check
+
+
+class Checks:
+    """Counts checks by group and prints every failed one."""
+
+    def __init__(self):
+        self.groups = {}
+        self.failed = 0
+
+    def equal(self, group, label, found, expected):
+        """One check: found and expected agree."""
+        self.groups[group] = self.groups.get(group, 0) + 1
+        if found != expected:
+            self.failed += 1
+            print(f"FAILED {group}: {label}: found {found!r}, expected {expected!r}")
+
+    def close(self):
+        """Prints a line for each group and the closing count; the exit status."""
+        for group, count in self.groups.items():
+            print(f"{group}: {count} checks")
+        print(f"{sum(self.groups.values())} checks, {self.failed} failed")
+        return 1 if self.failed else 0
+
+
+def on_axis(axis, controls):
+    """The coordinates of points where "one axis is given; the others are 0"."""
+    return [g if axis == a else 0 for g in controls for a in range(3)]
+
+
+K1_TO_K11 = [  # name, points, n, cells if listed by document 01, refusal
+    ("K1", (0, 1, 2, 3), 3, (0, 1, 2, 3), None),
+    ("K2", (0, 1, 2, 3), 2, None, 15),
+    ("K3", (0, 1, 2, 3), 6, (0, 0, 1, 1, 2, 2, 3), None),
+    ("K4", (3, 2, 1, 0), 6, (3, 3, 2, 2, 1, 1, 0), None),
+    ("K5", (0, 0, 0, 1), 1, (0, 1), None),
+    ("K6", (0, 0, 0, 2), 1, None, 15),
+    ("K7", (0, 0, 0, 6), 17, None, None),
+    ("K8", (0, 0, 0, 6), 16, None, 15),
+    ("K9", (0, 3, 3, 0), 9, (0, 1, 2, 2, 2, 2, 2, 2, 1, 0), None),
+    ("K10", (0, 3, 3, 0), 7, None, 15),
+    ("K10, n = 8", (0, 3, 3, 0), 8, None, None),
+    ("K11", (5, 5, 5, 5), 1, (5, 5), None),
+]
+K12 = [i + j for i in range(4) for j in range(4)]
+
+
+def as_patch(coordinates):
+    """The points of the patch whose every row along t is this curve."""
+    return [c for i in range(4) for _ in range(4) for c in coordinates[3 * i : 3 * i + 3]]
+
+
+def cells_with_row_remainder_dropped(record):
+    """Figure 3's slip: a row's values count from its first cell instead of from its first value."""
+    exact = samples(record)
+    walked = {indices: cell for indices, cell in cells(record).items() if indices[0] == 0}
+    for i, j in exact:
+        if i > 0:
+            slipped = [
+                (numerator - first + denominator * c, denominator)
+                for (numerator, denominator), (first, _), c in zip(exact[i, j], exact[0, j], walked[0, j], strict=True)
+            ]
+            walked[i, j] = tuple(map(move, walked[i - 1, j], slipped))
+    return walked
+
+
+def cells_with_halves_to_even(record):
+    """Cells within half a cell of their samples that may skip one: 1/2 goes to 0 and 3/2 to 2."""
+    return {
+        indices: tuple(round(Fraction(*coordinate)) for coordinate in exact)
+        for indices, exact in samples(record).items()
+    }
+
+
+def check_k1_to_k12(checks):
+    """K1 to K12 on each of the three axes, through listing and drawing, side 8."""
+    group = "K1 to K12"
+    held = bytes([77]) * 60
+    for axis in range(3):
+        for name, controls, n, expected, refusal in K1_TO_K11:
+            label = f"{name}, axis {axis}"
+            record = curve(on_axis(axis, controls), n, 9)
+            listed = list_curve(8, record, held)
+            drawn = draw(8, record, bytes(512))
+            checks.equal(group, f"{label}, listing", listed[:2], (refusal, None if refusal else n + 1))
+            checks.equal(group, f"{label}, drawing", drawn[:2], (refusal, None if refusal else n + 1))
+            if refusal is not None:
+                checks.equal(group, f"{label}, list kept", listed.lent, held)
+                checks.equal(group, f"{label}, grid kept", drawn.lent, bytes(512))
+            if expected is not None:
+                written = bytes(on_axis(axis, expected))
+                checks.equal(group, f"{label}, list", listed.lent, written + held[len(written) :])
+                marked = {8**axis * c for c in expected}
+                grid = bytes(9 if at in marked else 0 for at in range(512))
+                checks.equal(group, f"{label}, grid", drawn.lent, grid)
+        record = patch(on_axis(axis, K12), 4, 4, 9)
+        along_axis = [cell[axis] for cell in row(cells(record), 2)]
+        slipped = [cell[axis] for cell in row(cells_with_row_remainder_dropped(record), 2)]
+        checks.equal(group, f"K12, axis {axis}, row 2", along_axis, [1, 2, 3, 4, 4])
+        checks.equal(group, f"K12, axis {axis}, row 2 with the remainder dropped", slipped, [1, 2, 2, 3, 4])
+        checks.equal(group, f"K12, axis {axis}, drawing", draw(8, record, bytes(512))[:2], (None, 25))
+    for name, n, expected in ("K7", 17, (4902, 4913)), ("K8", 16, (4326, 4096)):
+        last, before = (value((n,), (i,), (0, 0, 0, 6)) for i in (n, n - 1))
+        checks.equal(group, f"{name}, last step", (last[0] - before[0], last[1]), expected)
+
+
+def de_casteljau(counts, indices, controls):
+    """The exact value by repeated interpolation, parameter by parameter: a second way to `value`."""
+    if not counts:
+        return Fraction(controls[0])
+    quarter = len(controls) // 4
+    values = [
+        de_casteljau(counts[1:], indices[1:], controls[quarter * k : quarter * (k + 1)]) for k in range(4)
+    ]
+    t = Fraction(indices[0], counts[0])
+    while len(values) > 1:
+        values = [(1 - t) * a + t * b for a, b in zip(values, values[1:])]
+    return values[0]
+
+
+def check_exact_samples(checks):
+    """The weights, the point order and the neighbours along both parameters."""
+    group = "exact samples"
+    checks.equal(group, "weights at 1/3", bernstein(3, 1), (8, 12, 6, 1))
+    checks.equal(group, "place", place(8, (1, 2, 3)), 209)
+    checks.equal(group, "scale of a patch", scale((2, 3)), 216)
+    for number in range(16):
+        controls = [int(k == number) for k in range(16)]
+        i, j = divmod(number, 4)
+        expected = (8, 12, 6, 1)[i] * (1, 3, 3, 1)[j]
+        checks.equal(group, f"weight of point {number}", value((3, 2), (1, 1), controls), (expected, 216))
+    dice = random.Random(1)
+    for counts in [(7,), (6, 5), (3, 4, 5)] * 10:
+        controls = [dice.randrange(64) for _ in range(4 ** len(counts))]
+        indices = tuple(dice.randrange(n + 1) for n in counts)
+        found = Fraction(*value(counts, indices, controls))
+        checks.equal(group, f"{counts} {indices} {controls}", found, de_casteljau(counts, indices, controls))
+    # x = 3 - i/2 + j/2 at sample (i, j): on a half, the cell shows from which side the walk came.
+    falling_rising = patch(on_axis(0, [3 - i + j for i in range(4) for j in range(4)]), 6, 6, 1)
+    for j, expected in (0, [3, 3, 2, 2, 1, 1, 0]), (1, [3, 3, 3, 2, 2, 1, 1]), (2, [4, 4, 3, 3, 2, 2, 1]):
+        found = [x for x, _, _ in row(cells(falling_rising), j)]
+        checks.equal(group, f"the walk along u, then along t, row {j}", found, expected)
+    k1_along_t = as_patch(on_axis(0, (0, 1, 2, 3)))
+    k1_along_u = on_axis(1, [j for _ in range(4) for j in range(4)])
+    for label, record, expected in (
+        ("every row along t K1's, n = 2", patch(k1_along_t, 2, 3, 1), 15),
+        ("every row along t K1's, n = 3", patch(k1_along_t, 3, 1, 1), None),
+        ("every row along u K1's, m = 2", patch(k1_along_u, 3, 2, 1), 15),
+        ("every row along u K1's, m = 3", patch(k1_along_u, 1, 3, 1), None),
+        ("long steps along t in the last two rows only", patch(on_axis(2, [0] * 15 + [2]), 1, 9, 1), 15),
+        ("long steps along u in the last two columns only", patch(on_axis(2, [0] * 15 + [2]), 9, 1, 1), 15),
+        ("the same with steps to spare", patch(on_axis(2, [0] * 15 + [2]), 9, 9, 1), None),
+    ):
+        checks.equal(group, label, draw(8, record, bytes(512)).refusal, expected)
+
+
+def check_refusals(checks):
+    """The orders: each call has every later fault too, and shows the first; then the limits."""
+    group = "refusals"
+    gap, outside = on_axis(0, (0, 0, 0, 7)), on_axis(0, (0, 0, 0, 8))
+    held = bytes(range(256)) * 2
+    for shape in curve, patch:
+        far, near, later, limit = (
+            (outside, gap, (), 512) if shape is curve else (as_patch(outside), as_patch(gap), (1,), 256)
+        )
+        for side, grid, coordinates, n, mark, expected in (
+            (1, held + b"x", far, 0, 0, 11),
+            (65, held + b"x", far, 0, 0, 11),
+            (4294967295, held, far, 0, 0, 11),
+            (0, b"", far, 0, 0, 11),
+            (8, held + b"x", far, 0, 0, 21),
+            (8, held[:-1], far, 0, 0, 21),
+            (7, held, far, 0, 0, 21),
+            (8, held, far, 0, 0, 12),
+            (8, held, far, 0, 1, 13),
+            (8, held, far, limit + 1, 255, 13),
+            (8, held, far, 1, 255, 14),
+            (8, held, near, 1, 255, 15),
+        ):
+            record = shape(coordinates, n, *later, mark)
+            answer = draw(side, record, grid)
+            checks.equal(group, f"draw {side} {len(grid)} {record}", answer, Answer(expected, None, grid))
+        record = shape(near, limit, *later, 255)
+        expected = limit + 1 if shape is curve else 2 * (limit + 1)
+        checks.equal(group, f"draw {record}", draw(8, record, held)[:2], (None, expected))
+    for m, expected in (0, 13), (1, None), (256, None), (257, 13):
+        record = patch([5] * 48, 1, m, 3)
+        checks.equal(group, f"patch m = {m}", draw(8, record, held).refusal, expected)
+    for side, lent, coordinates, n, expected in (
+        (1, b"", outside, 0, 11),
+        (65, b"", outside, 0, 11),
+        (8, b"", outside, 0, 13),
+        (8, b"", outside, 513, 13),
+        (8, b"12345", outside, 1, 22),
+        (8, b"123456", outside, 1, 14),
+        (8, b"123456", gap, 1, 15),
+    ):
+        record = curve(coordinates, n, 0)
+        answer = list_curve(side, record, lent)
+        checks.equal(group, f"list {side} {len(lent)} {record}", answer, Answer(expected, None, lent))
+    record = curve(on_axis(1, (0, 0, 0, 1)), 1, 0)
+    answer = list_curve(8, record, b"abcdefgh")
+    checks.equal(group, "a listing ignores the mark", answer, Answer(None, 2, bytes([0, 0, 0, 0, 1, 0]) + b"gh"))
+    for side, expected in (2, None), (64, None), (65, 11):
+        record = curve([side - 1] * 12, 1, 200)
+        answer = draw(side, record, bytes(side**3))
+        checks.equal(group, f"side {side}", answer.refusal, expected)
+        checks.equal(group, f"side {side}, last byte", answer.lent[-1], 0 if expected else 200)
+        checks.equal(group, f"side {side}, listing", list_curve(side, record, bytes(6)).refusal, expected)
+    for n, expected in (512, (None, 513)), (513, (13, None)):
+        record = curve(on_axis(2, (0, 63, 0, 63)), n, 1)
+        checks.equal(group, f"n = {n}", draw(64, record, bytes(64**3))[:2], expected)
+    checks.equal(group, "a grid one byte longer", draw(64, curve([0] * 12, 1, 1), bytes(64**3 + 1)).refusal, 21)
+    everywhere = patch([c for i in range(4) for j in range(4) for c in (21 * i, 21 * j, 63 - 21 * i)], 256, 256, 7)
+    checks.equal(group, "the largest patch", draw(64, everywhere, bytes(64**3))[:2], (None, 66049))
+
+
+ZERO, QUARTER, HALF, ONE, NOT_A_NUMBER = 0, 0x3E800000, 0x3F000000, 0x3F800000, 0x7FC00000
+SMALLEST = 0x00000001
+
+
+def check_swatches(checks):
+    """Cells of swatches, their refusals, and the slip of rounding the product."""
+    group = "swatches"
+    checks.equal(group, "side 2, v = 0.5", swatch_cell(2, Grey(HALF)), (None, (0, 0, 0)))
+    checks.equal(group, "side 3, v = 0.25", swatch_cell(3, Grey(QUARTER)), (None, (0, 0, 0)))
+    checks.equal(group, "side 3, next above 0.25", swatch_cell(3, Grey(QUARTER + 1)), (None, (1, 1, 1)))
+    checks.equal(group, "red, green, blue", swatch_cell(3, Rgb(ZERO, HALF, ONE)), (None, (0, 1, 2)))
+    checks.equal(group, "minus zero", swatch_cell(64, Rgb(MINUS_ZERO, SMALLEST, ONE)), (None, (0, 0, 63)))
+    for side in range(2, 65):
+        checks.equal(group, f"side {side}, v = 1", swatch_cell(side, Grey(ONE)), (None, (side - 1,) * 3))
+    for side, swatch, expected in (
+        (1, Grey(NOT_A_NUMBER), 11),
+        (65, Grey(ONE), 11),
+        (64, Grey(NOT_A_NUMBER), 31),
+        (64, Grey(INFINITY), 31),
+        (64, Grey(INFINITY | MINUS_ZERO), 31),
+        (64, Grey(SMALLEST | MINUS_ZERO), 32),
+        (64, Grey(ONE + 1), 32),
+        (64, Rgb(ONE + 1, INFINITY, ONE), 32),
+        (64, Rgb(ONE, INFINITY, ONE + 1), 31),
+        (64, Rgb(ONE, ZERO, ONE + 1), 32),
+        (64, Rgb(ONE, ZERO, NOT_A_NUMBER), 31),
+    ):
+        checks.equal(group, f"{side} {swatch}", swatch_cell(side, swatch), (expected, None))
+    bits = 0x3C020821  # the f32 just above 1/126
+    checks.equal(group, "v × 63 above the half", channel_coordinate(64, bits), 1)
+    checks.equal(group, "v × 63 rounded to f32 is the half", decode(encode(decode(bits) * 63)), Fraction(1, 2))
+    dice = random.Random(2)
+    for _ in range(300):
+        side, bits = dice.randrange(2, 65), dice.choice((dice.randrange(ONE + 1), dice.randrange(QUARTER, ONE + 1)))
+        exact = decode(bits) * (side - 1)
+        nearest = min(range(side), key=lambda c: (abs(c - exact), c))
+        checks.equal(group, f"nearest, side {side} {bits:#x}", channel_coordinate(side, bits), nearest)
+
+
+def f32(bits):
+    """The same f32 as a machine float, and back with `f32_bits`: used to cross-check only."""
+    return struct.unpack("<f", struct.pack("<I", bits))[0]
+
+
+def f32_bits(number):
+    """The pattern of a machine float rounded to f32."""
+    return struct.unpack("<I", struct.pack("<f", number))[0]
+
+
+def check_half_way(checks):
+    """Half-way swatches: literals, refusal order, the bounds, and a cross-check by machine floats."""
+    group = "half-way"
+    for a, b, expected in (
+        (ZERO, ONE, HALF),
+        (MINUS_ZERO, MINUS_ZERO, MINUS_ZERO),
+        (MINUS_ZERO, ZERO, ZERO),
+        (ZERO, MINUS_ZERO, ZERO),
+        (ONE, ONE, ONE),
+        (ONE, ONE - 1, ONE),
+        (ONE - 1, ONE - 2, ONE - 2),
+        (SMALLEST, ZERO, ZERO),
+        (SMALLEST, MINUS_ZERO, ZERO),
+        (SMALLEST, SMALLEST, SMALLEST),
+        (SMALLEST, 2, 2),
+        (2, 3, 2),
+        (0x00800000, 0x007FFFFF, 0x00800000),
+    ):
+        checks.equal(group, f"{a:#x} {b:#x}", half_way(Grey(a), Rgb(b, ZERO, ONE))[1].red, expected)
+    mixed = half_way(Rgb(ZERO, HALF, ONE), Grey(ONE))
+    checks.equal(group, "the three-channel kind", mixed, (None, Rgb(HALF, 0x3F400000, ONE)))
+    checks.equal(group, "of two greys", type(half_way(Grey(ZERO), Grey(ONE))[1]), Rgb)
+    for first, second, expected in (
+        (Rgb(ZERO, ZERO, ONE + 1), Grey(NOT_A_NUMBER), 32),
+        (Grey(INFINITY), Grey(ONE + 1), 31),
+        (Grey(ONE), Rgb(ONE, SMALLEST | MINUS_ZERO, INFINITY), 32),
+        (Grey(ONE), Rgb(ONE, INFINITY, SMALLEST | MINUS_ZERO), 31),
+    ):
+        checks.equal(group, f"{first} {second}", half_way(first, second), (expected, None))
+    checks.equal(group, "the f32 nearest to 1/3", encode(Fraction(1, 3)), 0x3EAAAAAB)
+    checks.equal(group, "the f32 nearest to 1/10", encode(Fraction(1, 10)), 0x3DCCCCCD)
+    dice = random.Random(3)
+    for _ in range(1000):
+        a = dice.randrange(ONE + 1)
+        b = dice.choice((dice.randrange(ONE + 1), min(ONE, max(0, a + dice.randrange(-(3 << 23), 3 << 23)))))
+        found = half_way_channel(a, b)
+        checks.equal(group, f"floats {a:#x} {b:#x}", found, f32_bits(f32(f32_bits(f32(a) + f32(b))) * 0.5))
+        checks.equal(group, f"between {a:#x} {b:#x}", min(a, b) <= found <= max(a, b), True)
+        wide = dice.randrange(INFINITY)
+        checks.equal(group, f"decode {wide:#x}", decode(wide | MINUS_ZERO), Fraction(f32(wide | MINUS_ZERO)))
+        checks.equal(group, f"encode {wide:#x}", encode(decode(wide)), wide)
+
+
+SAMPLE_SHEET = (
+    b"    4\n"
+    b"    7    3    0    0    0    1    0    0    2    0    0    3    0    0\n"
+)
+SAMPLE_LISTING = (
+    b"    X    Y    Z MARK\n"
+    b"    0    0    0    7\n"
+    b"    1    0    0    7\n"
+    b"    2    0    0    7\n"
+    b"    3    0    0    7\n"
+)
+
+
+def check_sheet(checks):
+    """The sample sheet and the empty input byte for byte, fields, lines, and the sheet call's buffer."""
+    group = "sheet"
+    checks.equal(group, "the sample sheet", sheet_output(SAMPLE_SHEET), SAMPLE_LISTING)
+    checks.equal(group, "the empty input", sheet_output(b""), b"REFUSED   41    1\n")
+    checks.equal(group, "a side alone", sheet_output(b"   40\n"), b"    X    Y    Z MARK\n")
+    for field, digits in (
+        (b"    0", b"0"), (b"   10", b"10"), (b"12345", b"12345"), (b"     ", b""), (b"   01", b""), (b"00000", b""),
+        (b"1    ", b""), (b"  1 2", b""), (b"   -1", b""), (b"   +1", b""), (b"\t   1", b""), (b"  1.0", b""),
+        (b"   1\r", b""), (b"   1\0", b""), (b"   1", b""), (b"     1", b""), (b"", b""),
+    ):  # fmt: skip
+        checks.equal(group, f"field {field!r}", read_field(field), digits)
+    good = format_line(7, 3, 0, 0, 0, 1, 0, 0, 2, 0, 0, 3, 0, 0)
+    long_steps = format_line(7, 2, 0, 0, 0, 1, 0, 0, 2, 0, 0, 3, 0, 0)
+    side = b"    4\n"
+    for text, refusal, line in (
+        (b"\n", 41, 1),
+        (b"    4", 41, 1),
+        (b"   4\n", 41, 1),
+        (b"     4\n", 41, 1),
+        (b"    4\r\n", 41, 1),
+        (b"4    \n", 42, 1),
+        (b"     \n", 42, 1),
+        (b"   4\r\n", 42, 1),
+        (b"    0\n", 11, 1),
+        (b"    1\n", 11, 1),
+        (b"   41\n", 43, 1),
+        (b"   64\n", 43, 1),
+        (b"   65\n", 11, 1),
+        (b"99999\n", 11, 1),
+        (b"    1\n" + long_steps, 11, 1),
+        (side + b"\n", 41, 2),
+        (side + b" ", 41, 2),
+        (side + good[:-1], 41, 2),
+        (side + good + b"\n", 41, 3),
+        (side + good[:-1] + b" ", 41, 2),
+        (side + good[1:], 41, 2),
+        (side + b" " + good, 41, 2),
+        (side + good[:-2] + b"x\n", 42, 2),
+        (side + good[:35] + b"\r" + good[36:], 42, 2),
+        (side + format_line(0, 3, *[9] * 11) + good, 41, 2),
+        (side + format_line(0, 0, *[99999] * 12).replace(b"    0", b"   00"), 42, 2),
+        (side + format_line(0, 0, *[99999] * 12), 12, 2),
+        (side + format_line(256, 0, *[99999] * 12), 12, 2),
+        (side + format_line(255, 0, *[99999] * 12), 13, 2),
+        (side + format_line(255, 513, *[99999] * 12), 13, 2),
+        (side + format_line(255, 512, *[0] * 11, 256), 14, 2),
+        (side + format_line(255, 512, *[0] * 11, 4), 14, 2),
+        (side + long_steps, 15, 2),
+        (side + good + long_steps + b"\n", 15, 3),
+        (side + good * 200 + b"\n", 44, 202),
+        (side + good * 200 + b"x", 44, 202),
+        (side + good * 201, 44, 202),
+        (side + good * 199 + long_steps + b"x", 15, 201),
+    ):
+        expected = b"REFUSED%5d%5d\n" % (refusal, line)
+        label = f"{len(text)} bytes, {text[-80:]!r}"
+        checks.equal(group, label, sheet_output(text), expected)
+        held = bytes([5]) * 64000
+        checks.equal(group, label, draw_sheet(text, held), SheetAnswer(refusal, line, None, None, held))
+    answer = draw_sheet(SAMPLE_SHEET, bytes([5]) * 64000)
+    expected = SheetAnswer(None, None, 4, 1, bytes([7] * 4 + [0] * 60 + [5] * 63936))
+    checks.equal(group, "the sample sheet's buffer", answer, expected)
+    checks.equal(group, "200 curve lines", draw_sheet(side + good * 200, bytes(64000))[:4], (None, None, 4, 200))
+    for length in 0, 63999, 64001:
+        held = bytes([5]) * length
+        checks.equal(group, f"buffer {length}", draw_sheet(b"", held), SheetAnswer(21, 0, None, None, held))
+    over = side + good + format_line(12, 1, *[1, 0, 0] * 4) + format_line(255, 1, *[3, 3, 3] * 4)
+    expected = SAMPLE_LISTING.replace(b"    1    0    0    7\n", b"    1    0    0   12\n") + b"    3    3    3  255\n"
+    checks.equal(group, "lines in turn", sheet_output(over), expected)
+    points = (0, 0, 1), (0, 1, 0), (1, 0, 0)
+    order = side + b"".join(format_line(mark, 1, *point * 4) for mark, point in enumerate(points, 1))
+    expected = HEADING + b"    1    0    0    3\n    0    1    0    2\n    0    0    1    1\n"
+    checks.equal(group, "rising byte place", sheet_output(order), expected)
+
+
+def check_demand_3_can_fail(checks):
+    """Document 01's impostors and slips are seen by the checks of demand 3."""
+    group = "demand 3, impostors"
+    start = bytes([50]) * 512
+    k1, k2 = (8, curve(on_axis(0, (0, 1, 2, 3)), 3, 9)), (8, curve(on_axis(0, (0, 1, 2, 3)), 2, 9))
+    k12 = (8, patch(on_axis(0, K12), 4, 4, 9))
+    drawn = run([k1], start)[1]
+    checks.equal(group, "K1's grid", drawn, bytes([9] * 4 + [50] * 508))
+    checks.equal(group, "K1 as it is", demand_3([k1], [start, drawn]), True)
+    checks.equal(group, "K12 as it is", demand_3([k12], run([k12], start)), True)
+    checks.equal(group, "K2 refused", demand_3([k2], [start, start]), True)
+    for label, calls, end in (
+        ("writing nothing", [k1], start),
+        ("marking point 0 for every sample", [k1], bytes([9]) + start[1:]),
+        ("one cell past the end", [k1], drawn[:4] + bytes([9]) + drawn[5:]),
+        ("another mark", [k1], drawn.replace(b"\x09", b"\x0a")),
+        ("clearing a cell", [k1], drawn[:-1] + bytes([0])),
+        ("drawing K2", [k2], drawn),
+    ):
+        checks.equal(group, label, demand_3(calls, [start, end]), False)
+    slipped = cells_with_row_remainder_dropped(k12[1])
+    checks.equal(group, "K12's dropped remainder, half a cell", samples_within_half(k12[1], slipped), False)
+    full = bytes([9]) * 512
+    checks.equal(
+        group, "K12's dropped remainder", demand_3([k12], [full, full], cells_with_row_remainder_dropped), False
+    )
+    halves = (8, patch(on_axis(0, K12), 3, 6, 9))
+    checks.equal(group, "halves as walked", demand_3([halves], [full, full]), True)
+    checks.equal(group, "halves to the even cell", demand_3([halves], [full, full], cells_with_halves_to_even), False)
+    checks.equal(group, "a cell left out", followers_adjacent({(0,): (4, 4, 4), (1,): (4, 4, 2)}), False)
+    checks.equal(group, "cells side by side", followers_adjacent({(0,): (4, 4, 4), (1,): (5, 3, 5)}), True)
+    # K3's sample 1 has the value 1/2, its sample 2 the value 1.
+    k3 = curve(on_axis(0, (0, 1, 2, 3)), 6, 9)
+    checks.equal(group, "either side of a half", near_coordinates(samples(k3)[1,][0]), [0, 1])
+    checks.equal(group, "a whole value", near_coordinates(samples(k3)[2,][0]), [1])
+
+
+def random_record(dice, side):
+    """A curve or patch about as long as its counts allow, now and then with a fault."""
+    parameters = 2 if dice.random() < 0.15 else 1
+    spread = dice.randrange(min(side, 7 if parameters == 2 else 64))
+    corner = [dice.randrange(side - spread) for _ in range(3)]
+    coordinates = [corner[k % 3] + dice.randrange(spread + 1) for k in range(3 * 4**parameters)]
+    counts = tuple(dice.randrange(1, 3 * spread + 3) for _ in range(parameters))
+    mark = dice.randrange(1, 256)
+    fault = dice.randrange(30)
+    if fault == 0:
+        coordinates[dice.randrange(len(coordinates))] = dice.randrange(side, 256)
+    if fault == 1:
+        counts = counts[1:] + (dice.choice((0, 513, 4294967295)),)
+    if fault == 2:
+        mark = 0
+    return Record(tuple(coordinates), counts, mark)
+
+
+def check_random_calls(checks):
+    """Seeded lists of calls, each into one cube of any bytes: demand 3, and refused calls leave the grid."""
+    group = "demand 3, random calls"
+    dice = random.Random(4)
+    answered = {}
+    for number in range(120):
+        side = dice.choice((2, 3, 4, 5, 8, 13, 17, 33, 64))
+        calls = []
+        for _ in range(dice.randrange(13)):
+            called = dice.choice((0, 1, 65, side + 1)) if dice.randrange(20) == 0 else side
+            calls.append((called, random_record(dice, side)))
+        start = dice.randbytes(side**3) if dice.randrange(2) else bytes(side**3)
+        grids = run(calls, start)
+        checks.equal(group, f"list {number}", demand_3(calls, grids), True)
+        for k, (called, record) in enumerate(calls):
+            answer = draw(called, record, grids[k])
+            if answer.refusal is not None:
+                checks.equal(group, f"list {number}, call {k}, grid kept", grids[k + 1], grids[k])
+            key = (len(record.counts), answer.refusal)
+            answered[key] = answered.get(key, 0) + 1
+    curves = {number: count for (parameters, number), count in answered.items() if parameters == 1}
+    patches = {number: count for (parameters, number), count in answered.items() if parameters == 2}
+    checks.equal(group, "every answer occurs", set(curves) | set(patches), {None, 11, 21, 12, 13, 14, 15})
+    checks.equal(group, f"300 curves accepted or more: {curves}", curves[None] >= 300, True)
+    checks.equal(group, f"36 patches accepted or more: {patches}", patches[None] >= 36, True)
+    checks.equal(group, f"15 for curves and patches: {answered}", min(curves[15], patches[15]) >= 20, True)
+
+
+def self_check():
+    """Runs every group; the exit status."""
+    checks = Checks()
+    for check in (
+        check_k1_to_k12,
+        check_exact_samples,
+        check_refusals,
+        check_swatches,
+        check_half_way,
+        check_sheet,
+        check_demand_3_can_fail,
+        check_random_calls,
+    ):
+        check(checks)
+    return checks.close()
+
+
+if __name__ == "__main__":
+    sys.exit(self_check())
