@@ -1,7 +1,8 @@
--- End points are samples: at a corner the value is the scale times that corner's control point, since one weight is the scale and the others are 0.
-use mathlib.Core.Path.{_≡_, refl, _∙_, ap}
-use mathlib.Core.List.{List, [], _∷_}
-use Prim.Native.Nat.{ℕ, _+_, _-_, _*_, zero-le}
+-- End points are samples: at a corner the value is the scale times that corner's control point, since one weight is
+-- the scale and the others are 0.
+use mathlib.Core.Path.{_≡_}
+use mathlib.Core.List.{List}
+use Prim.Native.Nat.{ℕ, _+_, _*_, zero-le}
 use native.Mathlib.Nat.{le-refl, sub-zero, sub-self}
 use native.Mathlib.Omega.{arith}
 use Rattle.bezier.specs.Exact.{blend, scale, points, value, Sample, no-index, index, Corner, no-corner, first, last}

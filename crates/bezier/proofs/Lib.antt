@@ -1,5 +1,5 @@
--- `Readings`: a curve's and a patch's values as document 01 writes them. `Scale`: it is not 0. `Ends`: corners are samples.
--- `Mean`: values lie between control values.
+-- `Readings`: a curve's and a patch's values as document 01 writes them. `Scale`: it is not 0. `Ends`: corners are
+-- samples. `Mean`: values lie between control values.
 pub mod Readings
 pub mod Scale
 pub mod Ends

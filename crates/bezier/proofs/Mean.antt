@@ -1,5 +1,5 @@
--- An exact value is a mean of control values: the weights are not negative, so a value grows with the control values, and they add up to the scale.
--- So it lies between the smallest and the largest control value.
+-- An exact value is a mean of control values: the weights are not negative, so a value grows with the control values,
+-- and they add up to the scale. So it lies between the smallest and the largest control value.
 use mathlib.Core.Path.{_≡_, _∙_, ap}
 use mathlib.Core.List.{List, [], _∷_}
 use Prim.Native.Nat.{ℕ, _+_, _-_, _*_, _≤_, _<_}

@@ -1,8 +1,9 @@
--- A curve and a patch as document 01 writes them are instances of the one definition over a list of step counts. All hold by computation.
+-- A curve and a patch as document 01 writes them are instances of the one definition over a list of step counts. All
+-- hold by computation.
 use mathlib.Core.Path.{_≡_, refl}
-use mathlib.Core.List.{List, [], _∷_}
-use Prim.Native.Nat.{ℕ, _*_}
-use Rattle.bezier.specs.Exact.{blend, scale, points, value}
+use mathlib.Core.List.{[], _∷_}
+use Prim.Native.Nat.{ℕ}
+use Rattle.bezier.specs.Exact.{blend, points, value}
 
 module _ (g : ℕ → ℕ) where
   -- A curve's value is B of its four points.

@@ -1,6 +1,7 @@
--- Document 01, "Exact samples and the walk", the samples: the exact values of a Bezier object on one axis, in whole numbers.
--- An object has a list of step counts, one a parameter: a curve [n], a patch [n, m]. A sample is a list of indices, one a parameter.
--- The exact value of a sample is `value` over `scale`: the numerator is stated, and the scale multiplies whatever it is compared with.
+-- Document 01, "Exact samples and the walk", the samples: the exact values of a Bezier object on one axis, in whole
+-- numbers. An object has a list of step counts, one a parameter: a curve [n], a patch [n, m]. A sample is a list of
+-- indices, one a parameter. The exact value of a sample is `value` over `scale`: the numerator is stated, and the
+-- scale multiplies whatever it is compared with.
 use mathlib.Core.List.{List, [], _∷_}
 use Prim.Native.Nat.{ℕ, _+_, _-_, _*_, _≤_}
 
@@ -19,8 +20,9 @@ unfoldable pub points : List ℕ → ℕ
 points [] = 1
 points (n ∷ ns) = 4 * points ns
 
--- The numerator of a sample's exact value, where g k is the coordinate of point number k: the same weights along each parameter.
--- The point numbers of the parameters after the first run fastest, so a patch's g(i, j) is point number 4 × i + j.
+-- The numerator of a sample's exact value, where g k is the coordinate of point number k: the same weights along each
+-- parameter. The point numbers of the parameters after the first run fastest, so a patch's g(i, j) is point number 4
+-- × i + j.
 unfoldable pub value : (counts : List ℕ) (g : ℕ → ℕ) (sample : List ℕ) → ℕ
 value [] g is = g 0
 value (n ∷ ns) g [] = 0
@@ -33,7 +35,8 @@ pub data Sample : List ℕ → List ℕ → Type 0 where
   no-index : Sample [] []
   index : {n i : ℕ} {ns is : List ℕ} → i ≤ n → Sample ns is → Sample (n ∷ ns) (i ∷ is)
 
--- The corners, with their point numbers: each index is 0 or its step count. A curve's are samples 0 and n, at points 0 and 3.
+-- The corners, with their point numbers: each index is 0 or its step count. A curve's are samples 0 and n, at points
+-- 0 and 3.
 pub data Corner : List ℕ → List ℕ → ℕ → Type 0 where
   no-corner : Corner [] [] 0
   first : {n p : ℕ} {ns is : List ℕ} → Corner ns is p → Corner (n ∷ ns) (0 ∷ is) p

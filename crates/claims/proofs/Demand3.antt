@@ -1,23 +1,22 @@
--- Demand 3 holds. Curve draws and patch draws supply what the list argument asks, since the cells of a drawable object are within half a cell of its
--- samples, inside the cube, and at places of their own.
-use mathlib.Core.Path.{_≡_, refl, sym, _∙_, ap, subst}
+-- Demand 3 holds. Curve draws and patch draws supply what the list argument asks, since the cells of a drawable
+-- object are within half a cell of its samples, inside the cube, and at places of their own.
+use mathlib.Core.Path.{_≡_, sym, _∙_, ap, subst}
 use mathlib.Core.Logic.{_⊎_, inl, inr, ⊎-elim}
-use mathlib.Core.List.{List, [], _∷_, _++_, List·Memᴰ}
-use Prim.Native.Nat.{ℕ, _<_}
+use mathlib.Core.List.{List, [], _∷_, _++_}
+use Prim.Native.Nat.{ℕ}
 use lib.Dec.{T}
 use lib.ListN.{length, getD}
-use Rattle.bezier.specs.Exact.{Sample}
-use Rattle.decide.specs.Refusal.{accepted}
 use Rattle.walk.specs.Walk.{withinHalf}
-use Rattle.drawing.specs.Cube.{Axis, Cell, Inside, place, volume}
+use Rattle.drawing.specs.Cube.{Cell, Inside, place, volume}
 use Rattle.drawing.specs.Object.{Object, unit, exact, cellOf}
-use Rattle.drawing.specs.Refusals.{drawVerdict, Drawable}
+use Rattle.drawing.specs.Refusals.{Drawable}
 use Rattle.drawing.specs.Drawing.{drawn}
 use Rattle.drawing.proofs.Cube.{place-below, place-injective, volume-injective}
 use Rattle.drawing.proofs.Accepted.{draw-accepted}
 use Rattle.drawing.proofs.Cells.{cell-within, cell-inside, cells-next-to}
 use Rattle.drawing.proofs.Drawn.{PlaceOfSample, length-drawn, drawn-holds, drawn-there}
-use Rattle.claims.specs.Demand3.{Call, sideOf, objectOf, inTurn, run, Accepted, SampleNear, MarkOfNearObject, JustDrawn, Demand3, Claim}
+use Rattle.claims.specs.Demand3.{Call, sideOf, objectOf, run, Accepted, MarkOfNearObject}
+use Rattle.claims.specs.Demand3.{JustDrawn, Claim}
 use Rattle.claims.proofs.Turns.{Supplies, MarkedBy, turns-length, turns-keep-or-mark, turns-last}
 
 -- A byte is a call's mark, and its place is that of the cell of one of the call's samples.

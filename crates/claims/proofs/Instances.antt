@@ -1,19 +1,19 @@
--- Demand 3 speaks of something: an accepted curve exists, a refused one leaves the grid, and a later stroke over an earlier one leaves both marks in
--- view. Computed, in a cube of side 2.
+-- Demand 3 speaks of something: an accepted curve exists, a refused one leaves the grid, and a later stroke over an
+-- earlier one leaves both marks in view. Computed, in a cube of side 2.
 use mathlib.Core.Path.{_≡_, refl}
 use mathlib.Core.List.{List, [], _∷_}
 use Prim.Native.Nat.{ℕ}
 use lib.ListN.{length}
 use Rattle.bezier.specs.Exact.{blend, scale, points, value}
 use Rattle.decide.specs.Some.{someBelow, someOf}
-use Rattle.decide.specs.Refusal.{accepted, refused, firstThat}
+use Rattle.decide.specs.Refusal.{firstThat}
 use Rattle.walk.specs.Walk.{withinHalf, towards, move, walk, cell}
 use Rattle.walk.specs.Steps.{farApart, someSample, tooLong}
 use Rattle.drawing.specs.Cube.{someAxis, sideOut, place}
 use Rattle.drawing.specs.Object.{offset, coordinate, exact, cellOf}
 use Rattle.drawing.specs.Refusals.{countOut, coordinateOut, stepsTooLong, order, drawVerdict}
 use Rattle.drawing.specs.Drawing.{row, rows, samples, marked, cells, drawn}
-use Rattle.claims.specs.Demand3.{Call, draw-curve, draw-patch, inTurn, run, Accepted}
+use Rattle.claims.specs.Demand3.{Call, draw-curve, inTurn, run, Accepted}
 
 -- Along x from (0, 0, 0) to (1, 0, 0), and along y from (0, 0, 0) to (0, 1, 0), in one step each.
 abbrev along-x : ℕ → Call

@@ -1,5 +1,5 @@
--- `Known`: K1 to K12 hold. `Turns`: the list argument, for calls of any kind. `Demand3`: demand 3 holds. `Strokes`: its form for a stroke sheet.
--- `Instances`: small computed cases, which show that demand 3 speaks of something.
+-- `Known`: K1 to K12 hold. `Turns`: the list argument, for calls of any kind. `Demand3`: demand 3 holds. `Strokes`:
+-- its form for a stroke sheet. `Instances`: small computed cases, which show that demand 3 speaks of something.
 pub mod Known
 pub mod Turns
 pub mod Demand3

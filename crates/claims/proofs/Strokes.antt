@@ -1,12 +1,12 @@
 -- The strokes of a sheet are a list of calls that starts from an unmarked cube, so demand 3 speaks of them.
-use mathlib.Core.Path.{_≡_, refl, sym, _∙_, ap, subst}
-use mathlib.Core.Logic.{_⊎_, inl, inr, ⊎-elim}
+use mathlib.Core.Path.{_≡_, _∙_, subst}
+use mathlib.Core.Logic.{inl, inr, ⊎-elim}
 use mathlib.Core.List.{List, [], _∷_, _++_, map, map-append}
-use Prim.Native.Nat.{ℕ, _<_}
-use lib.ListN.{length, getD, replicate, length-replicate, getD-replicate}
-use Rattle.drawing.specs.Cube.{Cell, Inside, place, volume}
+use Prim.Native.Nat.{ℕ}
+use lib.ListN.{length, getD, length-replicate, getD-replicate}
+use Rattle.drawing.specs.Cube.{place, volume}
 use Rattle.drawing.proofs.Cube.{place-below}
-use Rattle.claims.specs.Demand3.{run, Accepted, MarkOfNearObject, JustDrawn, Demand3}
+use Rattle.claims.specs.Demand3.{MarkOfNearObject, Demand3}
 use Rattle.claims.specs.Strokes.{Stroke, unmarked, callOf, drawing, StrokesDrawn}
 use Rattle.claims.proofs.Demand3.{claim}
 

@@ -1,13 +1,15 @@
--- The argument about a list of calls, once, for calls of any kind: what each call keeps or marks, the list keeps or marks.
-use mathlib.Core.Path.{_≡_, refl, sym, _∙_, ap, subst}
+-- The argument about a list of calls, once, for calls of any kind: what each call keeps or marks, the list keeps or
+-- marks.
+use mathlib.Core.Path.{_≡_, refl, sym, _∙_, subst}
 use mathlib.Core.Logic.{_⊎_, inl, inr, ⊎-elim}
 use mathlib.Core.List.{List, [], _∷_, _++_, List·Memᴰ, List·Memᴰ·head, List·Memᴰ·tail}
 use Prim.Native.Nat.{ℕ, _<_}
 use lib.ListN.{length, getD}
 use Rattle.claims.specs.Demand3.{inTurn}
 
--- What a kind of call supplies: how it draws, which calls are accepted into a grid of some length, and what it says of a byte that it marks.
--- A drawing keeps the grid's length, and at each place it keeps the byte, or the call is accepted and marks it.
+-- What a kind of call supplies: how it draws, which calls are accepted into a grid of some length, and what it says
+-- of a byte that it marks. A drawing keeps the grid's length, and at each place it keeps the byte, or the call is
+-- accepted and marks it.
 pub record Supplies (C : Type 0) : Type 1 where
   pub draw : C → List ℕ → List ℕ
   pub Good : ℕ → C → Type 0

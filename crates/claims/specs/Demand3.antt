@@ -36,7 +36,8 @@ inTurn draw (call ∷ calls) grid = inTurn draw calls (draw call grid)
 unfoldable pub run : List Call → List ℕ → List ℕ
 run = inTurn (λ call. drawn (sideOf call) (objectOf call))
 
--- An object is accepted if no number in its own call's drawing order applies, judged by the arguments and the grid's length alone.
+-- An object is accepted if no number in its own call's drawing order applies, judged by the arguments and the grid's
+-- length alone.
 abbrev pub Accepted : (gridLength : ℕ) → Call → Type 0
 Accepted gridLength call = drawVerdict (sideOf call) gridLength (objectOf call) ≡ accepted
 
@@ -44,7 +45,8 @@ Accepted gridLength call = drawVerdict (sideOf call) gridLength (objectOf call) 
 abbrev pub SampleNear : (o : Object) (sample : List ℕ) (c : Cell) → Type 0
 SampleNear o sample c = (a : Axis) → T (withinHalf (unit o) (c a) (exact o a sample))
 
--- A byte is the mark of an accepted object of the list that has an exact sample within half a cell of the cell on every axis.
+-- A byte is the mark of an accepted object of the list that has an exact sample within half a cell of the cell on
+-- every axis.
 pub record MarkOfNearObject (gridLength : ℕ) (calls : List Call) (c : Cell) (byte : ℕ) : Type 0 where
   pub call : Call
   pub of-the-list : List·Memᴰ call calls
@@ -54,8 +56,9 @@ pub record MarkOfNearObject (gridLength : ℕ) (calls : List Call) (c : Cell) (b
   pub is-sample : Sample (objectOf call .counts) sample
   pub is-near : SampleNear (objectOf call) sample c
 
--- Just after an object is drawn into a cube of side S: every one of its exact samples has its cell in the cube, within half a cell on every axis
--- and holding its mark, and two cells that follow one another differ by at most one on every axis.
+-- Just after an object is drawn into a cube of side S: every one of its exact samples has its cell in the cube,
+-- within half a cell on every axis and holding its mark, and two cells that follow one another differ by at most one
+-- on every axis.
 pub record JustDrawn (S : ℕ) (o : Object) (grid : List ℕ) : Type 0 where
   pub in-the-cube : {sample : List ℕ} → Sample (o .counts) sample → Inside S (cellOf o sample)
   pub within-half-a-cell : {sample : List ℕ} → Sample (o .counts) sample → SampleNear o sample (cellOf o sample)

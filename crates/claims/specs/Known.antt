@@ -1,4 +1,5 @@
--- Document 01, "Samples to check by": K1 to K12 as one list. One axis is given, here x; the others are 0, and the side is 8.
+-- Document 01, "Samples to check by": K1 to K12 as one list. One axis is given, here x; the others are 0, and the
+-- side is 8.
 use mathlib.Core.Bool.{Bool, true, false, _&&_}
 use mathlib.Core.List.{List, [], _∷_, map}
 use Prim.Native.Nat.{ℕ, _+_, _-_}
@@ -9,8 +10,8 @@ use Rattle.drawing.specs.Object.{Object, curve, patch, unit, exact, cellOf}
 use Rattle.drawing.specs.Refusals.{drawVerdict}
 use Rattle.drawing.specs.Drawing.{row, bytes}
 
--- What document 01 says of a curve, or of a row of a patch along t: it is accepted and its cells are these; it is accepted; it is refused with this
--- number; its last step is this numerator over this denominator.
+-- What document 01 says of a curve, or of a row of a patch along t: it is accepted and its cells are these; it is
+-- accepted; it is refused with this number; its last step is this numerator over this denominator.
 pub data Says : Type 0 where
   cells : List ℕ → Says
   accepts : Says

@@ -1,11 +1,12 @@
--- Document 01, "The words of demand 3": an accepted sheet counts as a list of its own, the curve draws of its lines, in turn, into an unmarked cube.
+-- Document 01, "The words of demand 3": an accepted sheet counts as a list of its own, the curve draws of its lines,
+-- in turn, into an unmarked cube.
 use mathlib.Core.Path.{_≡_}
 use mathlib.Core.Logic.{_⊎_}
 use mathlib.Core.List.{List, [], _∷_, _++_, map}
 use Prim.Native.Nat.{ℕ}
-use lib.ListN.{length, getD, replicate}
+use lib.ListN.{getD, replicate}
 use Rattle.drawing.specs.Cube.{Cell, Inside, place, volume}
-use Rattle.drawing.specs.Object.{Object, curve}
+use Rattle.drawing.specs.Object.{curve}
 use Rattle.claims.specs.Demand3.{Call, draw-curve, run, Accepted, MarkOfNearObject, JustDrawn}
 
 -- A curve line: its step count, the coordinates of its points and its mark.
@@ -25,7 +26,8 @@ callOf S s = draw-curve S (s .steps) (s .points) (s .mark)
 abbrev pub drawing : (S : ℕ) → List Stroke → List ℕ
 drawing S strokes = run (map (callOf S) strokes) (unmarked S)
 
--- Demand 3 for strokes: each cell is unmarked or holds the mark of a stroke near it; and so it is just after each stroke.
+-- Demand 3 for strokes: each cell is unmarked or holds the mark of a stroke near it; and so it is just after each
+-- stroke.
 pub record StrokesDrawn (S : ℕ) (strokes : List Stroke) : Type 0 where
   pub each-cell : (c : Cell) → Inside S c →
       (getD (drawing S strokes) (place S c) 0 ≡ 0) ⊎

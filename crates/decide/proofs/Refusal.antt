@@ -1,5 +1,5 @@
--- The first number that applies, in words: no number exactly where no rule applies, and otherwise the number of a rule that applies while none
--- before it does.
+-- The first number that applies, in words: no number exactly where no rule applies, and otherwise the number of a
+-- rule that applies while none before it does.
 use mathlib.Core.Path.{_≡_, refl}
 use mathlib.Core.Logic.{_↔_, _≢_, _⊎_, inl, inr, ⊎-elim}
 use mathlib.Core.Bool.{Bool, true, false, cond}

@@ -1,4 +1,5 @@
--- Tests that some index or some element passes. They compute; `proofs/Some.antt` says them with "there is" and "for all".
+-- Tests that some index or some element passes. They compute; `proofs/Some.antt` says them with "there is" and "for
+-- all".
 use mathlib.Core.Bool.{Bool, false, _||_}
 use mathlib.Core.List.{List, [], _∷_}
 use Prim.Native.Nat.{ℕ, zero, suc}

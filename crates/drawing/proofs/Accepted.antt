@@ -1,22 +1,24 @@
--- What acceptance says in words, both ways: each test of the order is turned into its inequality or into "no long step".
+-- What acceptance says in words, both ways: each test of the order is turned into its inequality or into "no long
+-- step".
 use mathlib.Core.Path.{_≡_, refl}
-use mathlib.Core.Logic.{_↔_, _⊎_, inl, inr, ⊎-elim, Iff·trans}
-use mathlib.Core.Bool.{Bool, true, false, not, _||_, true≢false}
-use mathlib.Core.List.{List, [], _∷_}
-use Prim.Native.Nat.{ℕ, suc, _+_, _*_, _≤_, _<_}
+use mathlib.Core.Logic.{_↔_, ⊎-elim}
+use mathlib.Core.Bool.{Bool, true, false, not, true≢false}
+use mathlib.Core.List.{List}
+use Prim.Native.Nat.{ℕ, _*_, _≤_, _<_}
 use native.Mathlib.Omega.{arith}
 use lib.Dec.{T, T-not, not-T, ltb, eqb}
 use lib.ListN.{length, getD}
 use Rattle.decide.specs.Some.{someOf}
-use Rattle.decide.specs.Refusal.{Verdict, accepted, refused, firstThat}
+use Rattle.decide.specs.Refusal.{accepted, firstThat}
 use Rattle.decide.proofs.Truth.{neither, not-less, less, equal, true-of, false-of, false-iff, decided}
 use Rattle.decide.proofs.Some.{some-of}
 use Rattle.decide.proofs.Refusal.{NoneApplies, accepted-none}
 use Rattle.walk.specs.Steps.{tooLong, LongStep}
 use Rattle.walk.proofs.Long.{too-long}
-use Rattle.drawing.specs.Cube.{Axis, sideOut, someAxis, volume}
+use Rattle.drawing.specs.Cube.{Axis, sideOut, volume}
 use Rattle.drawing.specs.Object.{Object, unit, exact}
-use Rattle.drawing.specs.Refusals.{countOut, coordinateOut, stepsTooLong, order, drawVerdict, listVerdict, sampleCount, Drawable}
+use Rattle.drawing.specs.Refusals.{countOut, coordinateOut, stepsTooLong, order, drawVerdict, listVerdict}
+use Rattle.drawing.specs.Refusals.{sampleCount, Drawable}
 use Rattle.drawing.proofs.Cube.{some-axis}
 
 -- 11 does not apply.

@@ -1,23 +1,22 @@
--- The cells of a drawable object: each is within half a cell of its sample on every axis, inside the cube, and next to the one before it; a corner's cell
--- is its control point.
-use mathlib.Core.Path.{_≡_, refl, sym, _∙_, ap, subst}
-use mathlib.Core.Logic.{_⊎_, inl, inr, ⊎-elim}
+-- The cells of a drawable object: each is within half a cell of its sample on every axis, inside the cube, and next
+-- to the one before it; a corner's cell is its control point.
+use mathlib.Core.Path.{_≡_}
+use mathlib.Core.Logic.{⊎-elim}
 use mathlib.Core.List.{List, [], _∷_}
-use Prim.Native.Nat.{ℕ, suc, _+_, _*_, _-_, _≤_, _<_}
-use native.Mathlib.Nat.{le-refl}
+use Prim.Native.Nat.{ℕ, _+_, _*_, _-_, _≤_, _<_}
 use native.Mathlib.Omega.{arith}
 use lib.Dec.{T, ltb}
 use lib.ListN.{length, getD, List·getD-eq-default}
-use Rattle.bezier.specs.Exact.{scale, points, value, Sample, no-index, index, Corner, no-corner, first, last}
+use Rattle.bezier.specs.Exact.{points, Sample, Corner, no-corner, first}
 use Rattle.bezier.proofs.Scale.{scale-positive}
 use Rattle.bezier.proofs.Ends.{corner-value, corner-sample}
 use Rattle.bezier.proofs.Mean.{value-below}
 use Rattle.decide.proofs.Truth.{decided, less, not-less}
-use Rattle.walk.specs.Walk.{withinHalf, cell, NextTo}
+use Rattle.walk.specs.Walk.{withinHalf, NextTo}
 use Rattle.walk.specs.Steps.{Follows}
 use Rattle.walk.proofs.Half.{within-half, within-half-below, within-half-whole}
 use Rattle.walk.proofs.Accuracy.{origin, cell-within-half, follows-next-to}
-use Rattle.drawing.specs.Cube.{Axis, Cell, Inside}
+use Rattle.drawing.specs.Cube.{Axis, Inside}
 use Rattle.drawing.specs.Object.{Object, unit, coordinate, offset, exact, cellOf}
 use Rattle.drawing.specs.Refusals.{Drawable}
 

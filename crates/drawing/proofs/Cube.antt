@@ -1,10 +1,11 @@
--- Places of cells: each cell of a cube stands at a byte of its grid, and different cells at different bytes. The three coordinates are the place's
--- digits to the base S.
+-- Places of cells: each cell of a cube stands at a byte of its grid, and different cells at different bytes. The
+-- three coordinates are the place's digits to the base S.
 use mathlib.Core.Path.{_≡_, sym}
-use mathlib.Core.Logic.{_↔_, _⊎_, inl, inr, ⊎-elim}
+use mathlib.Core.Logic.{_↔_, inl, inr, ⊎-elim}
 use mathlib.Core.Bool.{Bool, _||_}
-use Prim.Native.Nat.{ℕ, suc, _+_, _*_, _≤_, _<_}
-use native.Mathlib.Nat.{le-of-lt, lt-of-le-of-lt, mul-le-mul, mul-le-mul-left, mul-le-mul-right, mul-lt-mul-of-pos-left, mul-pos}
+use Prim.Native.Nat.{ℕ, _+_, _*_, _≤_, _<_}
+use native.Mathlib.Nat.{le-of-lt, lt-of-le-of-lt, mul-le-mul, mul-le-mul-left, mul-le-mul-right}
+use native.Mathlib.Nat.{mul-lt-mul-of-pos-left, mul-pos}
 use native.Mathlib.Omega.{arith}
 use lib.Dec.{T}
 use Rattle.decide.proofs.Truth.{either}

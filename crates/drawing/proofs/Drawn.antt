@@ -1,16 +1,17 @@
--- One drawing in words: a refused one leaves the grid; an accepted one leaves its length, marks every sample's cell, and leaves every other byte.
-use mathlib.Core.Path.{_≡_, refl, sym, _∙_, ap}
+-- One drawing in words: a refused one leaves the grid; an accepted one leaves its length, marks every sample's cell,
+-- and leaves every other byte.
+use mathlib.Core.Path.{_≡_, sym, _∙_, ap}
 use mathlib.Core.Logic.{_⊎_, inl, inr, ⊎-elim}
-use mathlib.Core.List.{List, [], _∷_, map, List·Memᴰ, Memᴰ·map, Memᴰ·of-map}
+use mathlib.Core.List.{List, map, List·Memᴰ, Memᴰ·map, Memᴰ·of-map}
 use Prim.Native.Nat.{ℕ, _<_}
 use lib.ListN.{length, getD}
 use Rattle.bezier.specs.Exact.{Sample}
 use Rattle.decide.specs.Refusal.{accepted, refused}
 use Rattle.decide.proofs.Refusal.{by-verdict}
-use Rattle.drawing.specs.Cube.{Inside, place, volume}
+use Rattle.drawing.specs.Cube.{place}
 use Rattle.drawing.specs.Object.{Object, cellOf}
-use Rattle.drawing.specs.Refusals.{drawVerdict, Drawable}
-use Rattle.drawing.specs.Drawing.{samples, marked, leaves, cells, drawn}
+use Rattle.drawing.specs.Refusals.{drawVerdict}
+use Rattle.drawing.specs.Drawing.{samples, marked, cells, drawn}
 use Rattle.drawing.proofs.Cube.{place-below}
 use Rattle.drawing.proofs.Samples.{sample-listed, listed-sample}
 use Rattle.drawing.proofs.Marked.{length-marked, marked-holds, marked-there}
@@ -56,7 +57,8 @@ module _ (S : ℕ) (o : Object) (grid : List ℕ) where
         at = sym (c .2) ∙ ap (place S) (sym (s .2));
       }
 
-  -- Each byte holds what it held, or the drawing is accepted and the byte is the place of a sample's cell and holds the mark.
+  -- Each byte holds what it held, or the drawing is accepted and the byte is the place of a sample's cell and holds
+  -- the mark.
   pub drawn-holds : (q : ℕ) → q < length grid →
       (getD (drawn S o grid) q 0 ≡ getD grid q 0) ⊎
       ((drawVerdict S (length grid) o ≡ accepted) × PlaceOfSample S o q × (getD (drawn S o grid) q 0 ≡ o .mark))

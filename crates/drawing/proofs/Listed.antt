@@ -1,8 +1,8 @@
--- One listing in words: a refused one leaves the list; an accepted one of a curve has x y z of sample i's cell at bytes 3 × i to 3 × i + 2, leaves the
--- rest, and keeps the list's length.
-use mathlib.Core.Path.{_≡_, refl, sym, _∙_, ap}
+-- One listing in words: a refused one leaves the list; an accepted one of a curve has x y z of sample i's cell at
+-- bytes 3 × i to 3 × i + 2, leaves the rest, and keeps the list's length.
+use mathlib.Core.Path.{_≡_, refl, _∙_, ap}
 use mathlib.Core.Logic.{⊎-elim}
-use mathlib.Core.List.{List, [], _∷_, _++_, map}
+use mathlib.Core.List.{List, [], _∷_, _++_}
 use Prim.Native.Nat.{ℕ, zero, suc, _+_, _*_, _-_, _≤_, _<_}
 use native.Mathlib.Omega.{arith}
 use lib.ListN.{length, getD, drop, length-append, length-drop, length-map, List·getD-append, List·getD-map}
@@ -14,7 +14,7 @@ use Rattle.decide.proofs.Refusal.{by-verdict}
 use Rattle.drawing.specs.Cube.{Axis, x-axis, y-axis, z-axis, Cell}
 use Rattle.drawing.specs.Object.{Object, curve, offset, cellOf}
 use Rattle.drawing.specs.Refusals.{listVerdict, sampleCount}
-use Rattle.drawing.specs.Drawing.{row, rows, samples, bytes, leaves, cells, listed}
+use Rattle.drawing.specs.Drawing.{row, rows, samples, bytes, cells, listed}
 use Rattle.drawing.proofs.Samples.{length-row, samples-count}
 use Rattle.drawing.proofs.Accepted.{list-accepted}
 

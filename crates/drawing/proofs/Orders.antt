@@ -1,14 +1,14 @@
--- The orders of refusal hold document 01's numbers in its order, and 15 is answered exactly where there is a long step and nothing before it applies.
+-- The orders of refusal hold document 01's numbers in its order, and 15 is answered exactly where there is a long
+-- step and nothing before it applies.
 use mathlib.Core.Path.{_≡_, refl}
-use mathlib.Core.Logic.{_↔_, _≢_}
-use mathlib.Core.Bool.{Bool, true}
-use mathlib.Core.List.{List, [], _∷_}
+use mathlib.Core.Logic.{_↔_}
+use mathlib.Core.Bool.{Bool}
+use mathlib.Core.List.{[], _∷_}
 use Prim.Native.Nat.{ℕ}
 use native.Mathlib.Omega.{arith}
-use lib.Dec.{T}
 use lib.ListN.{take}
-use Rattle.decide.specs.Refusal.{Rule, refused, firstThat, numbers}
-use Rattle.decide.proofs.Refusal.{NoneApplies, FirstApplies, here, there, refused-first, passed-over, only-left}
+use Rattle.decide.specs.Refusal.{refused, firstThat, numbers}
+use Rattle.decide.proofs.Refusal.{NoneApplies, here, there, refused-first, passed-over, only-left}
 use Rattle.decide.proofs.Truth.{true-of}
 use Rattle.walk.specs.Steps.{LongStep}
 use Rattle.drawing.specs.Cube.{Axis}

@@ -1,4 +1,5 @@
--- Document 01, "Exact samples and the walk", its last paragraph: what grid and list hold after a call. A refused call leaves both as they were.
+-- Document 01, "Exact samples and the walk", its last paragraph: what grid and list hold after a call. A refused call
+-- leaves both as they were.
 use mathlib.Core.List.{List, [], _∷_, _++_, map}
 use Prim.Native.Nat.{ℕ, zero, suc}
 use lib.ListN.{length, drop, set}
@@ -45,6 +46,7 @@ cells o = map (cellOf o) (samples (o .counts))
 unfoldable pub drawn : (S : ℕ) (o : Object) (grid : List ℕ) → List ℕ
 drawn S o grid = leaves (drawVerdict S (length grid) o) (marked (o .mark) (map (place S) (cells o)) grid) grid
 
--- The list after a listing: an accepted one writes three bytes, x y z, for each sample in turn from the front, and leaves the rest.
+-- The list after a listing: an accepted one writes three bytes, x y z, for each sample in turn from the front, and
+-- leaves the rest.
 unfoldable pub listed : (S : ℕ) (o : Object) (list : List ℕ) → List ℕ
 listed S o list = leaves (listVerdict S (length list) o) (bytes (cells o) ++ drop (length (bytes (cells o))) list) list

@@ -1,5 +1,6 @@
--- Document 01 in its own order. `Cube`: "The colour cube", the cells. `Object`: the curve and the patch, their exact samples and cells.
--- `Refusals`: "Who can cause which refusal", for drawing and listing. `Drawing`: what grid and list hold afterwards.
+-- Document 01 in its own order. `Cube`: "The colour cube", the cells. `Object`: the curve and the patch, their exact
+-- samples and cells. `Refusals`: "Who can cause which refusal", for drawing and listing. `Drawing`: what grid and
+-- list hold afterwards.
 pub mod Cube
 pub mod Object
 pub mod Refusals

@@ -1,4 +1,5 @@
--- Document 01, "The colour cube" and "Exact samples and the walk": the curve and the patch, their exact samples and their cells.
+-- Document 01, "The colour cube" and "Exact samples and the walk": the curve and the patch, their exact samples and
+-- their cells.
 use mathlib.Core.List.{List, [], _∷_}
 use Prim.Native.Nat.{ℕ, _+_, _*_}
 use lib.ListN.{getD}

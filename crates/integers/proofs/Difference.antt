@@ -1,6 +1,6 @@
--- Each integer is a difference of two naturals, `val p n` = p − n, so a statement on integers becomes one on naturals:
--- a linear fact on x and y is proved by `rw (val-of x, val-of y) (simp zval (omega arith))`. Its hypotheses are premises
--- of the goal, and not bound left of the equals sign, so that they are rewritten too.
+-- Each integer is a difference of two naturals, `val p n` = p − n, so a statement on integers becomes one on
+-- naturals: a linear fact on x and y is proved by `rw (val-of x, val-of y) (simp zval (omega arith))`. Its hypotheses
+-- are premises of the goal, and not bound left of the equals sign, so that they are rewritten too.
 use mathlib.Core.Path.{_≡_, refl, sym, ap, subst}
 use mathlib.Core.Logic.{_↔_}
 use mathlib.Core.Bool.{Bool, true, false, not, cond}

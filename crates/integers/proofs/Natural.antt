@@ -1,5 +1,5 @@
--- The way between naturals and the integers that are not negative; sums and products need no law, since `pos a +ℤ pos b`
--- and `pos a *ℤ pos b` compute to `pos (a + b)` and `pos (a * b)`.
+-- The way between naturals and the integers that are not negative; sums and products need no law, since `pos a +ℤ pos
+-- b` and `pos a *ℤ pos b` compute to `pos (a + b)` and `pos (a * b)`.
 use mathlib.Core.Path.{_≡_}
 use mathlib.Core.Logic.{_↔_}
 use Prim.Native.Nat.{ℕ, _-_, _≤_, _<_}

@@ -1,15 +1,13 @@
--- Accuracy: within half a cell before and a step of at most one cell give within half a cell after, by one move of at most one. So it is of a whole
--- walk, and of the cells of an object in any number of parameters.
-use mathlib.Core.Path.{_≡_, refl}
-use mathlib.Core.Logic.{_⊎_, inl, inr}
+-- Accuracy: within half a cell before and a step of at most one cell give within half a cell after, by one move of at
+-- most one. So it is of a whole walk, and of the cells of an object in any number of parameters.
+use mathlib.Core.Logic.{inl, inr}
 use mathlib.Core.List.{List, [], _∷_}
 use Prim.Native.Nat.{ℕ, zero, suc, pred, _+_, _*_, _≤_, _<_}
 use native.Mathlib.Omega.{arith}
 use lib.Dec.{T}
 use Rattle.bezier.specs.Exact.{Sample, no-index, index}
-use Rattle.decide.proofs.Truth.{neither, not-less}
 use Rattle.walk.specs.Walk.{withinHalf, move, walk, cell, NextTo}
-use Rattle.walk.specs.Steps.{farApart, Neighbours, first, later, LongStep, Follows, next}
+use Rattle.walk.specs.Steps.{farApart, first, later, LongStep, Follows, next}
 use Rattle.walk.proofs.Half.{within-half}
 use Rattle.walk.proofs.Long.{far-apart}
 use Rattle.walk.proofs.Move.{move-cases, move-next-to}
@@ -47,7 +45,8 @@ origin [] = []
 origin (n ∷ ns) = zero ∷ origin ns
 
 module _ (s c : ℕ) where
-  -- Where no step is too long and point 0 is within half a cell of its own value, every sample's cell is within half a cell of its value.
+  -- Where no step is too long and point 0 is within half a cell of its own value, every sample's cell is within half
+  -- a cell of its value.
   pub cell-within-half : {ns is : List ℕ} (f : List ℕ → ℕ) → Sample ns is → T (withinHalf s c (f (origin ns))) →
       ¬ LongStep s ns f → T (withinHalf s (cell s c f is) (f is))
   unfolding cell

@@ -1,8 +1,8 @@
--- Within half a cell as two inequalities, and what follows for a coordinate: it is the whole number that the value is, where the value is one,
--- and it passes no whole number that the value does not pass.
+-- Within half a cell as two inequalities, and what follows for a coordinate: it is the whole number that the value
+-- is, where the value is one, and it passes no whole number that the value does not pass.
 use mathlib.Core.Path.{_≡_}
 use mathlib.Core.Logic.{_↔_, Iff·rfl, _⊎_, inl, inr, ⊎-elim}
-use Prim.Native.Nat.{ℕ, suc, _+_, _*_, _≤_, _<_}
+use Prim.Native.Nat.{ℕ, _+_, _*_, _≤_, _<_}
 use native.Mathlib.Nat.{le-refl, mul-le-mul-left}
 use native.Mathlib.Omega.{arith}
 use lib.Dec.{T, leb, leb→le}

@@ -1,8 +1,8 @@
--- Document 01, "Steps too long": some two neighbouring samples lie more than one cell apart on an axis. Exactly one cell apart is allowed.
-use mathlib.Core.Path.{_≡_}
+-- Document 01, "Steps too long": some two neighbouring samples lie more than one cell apart on an axis. Exactly one
+-- cell apart is allowed.
 use mathlib.Core.Bool.{Bool, false, _||_}
 use mathlib.Core.List.{List, [], _∷_}
-use Prim.Native.Nat.{ℕ, zero, suc, _+_, _≤_, _<_}
+use Prim.Native.Nat.{ℕ, suc, _+_, _≤_, _<_}
 use lib.Dec.{T, ltb}
 use Rattle.bezier.specs.Exact.{Sample}
 use Rattle.decide.specs.Some.{someBelow}
@@ -16,8 +16,8 @@ unfoldable pub someSample : (counts : List ℕ) (p : List ℕ → Bool) → Bool
 someSample [] p = p []
 someSample (n ∷ ns) p = someBelow (suc n) (λ i. someSample ns (λ is. p (i ∷ is)))
 
--- Some two neighbours are more than one cell apart: neighbours along the first parameter, everywhere, or along a later one, at every index
--- of the first. For a patch these are neighbours along t and along u.
+-- Some two neighbours are more than one cell apart: neighbours along the first parameter, everywhere, or along a
+-- later one, at every index of the first. For a patch these are neighbours along t and along u.
 unfoldable pub tooLong : (s : ℕ) (counts : List ℕ) (f : List ℕ → ℕ) → Bool
 tooLong s [] f = false
 tooLong s (n ∷ ns) f =
@@ -29,13 +29,15 @@ pub data Neighbours : List ℕ → List ℕ → List ℕ → Type 0 where
   first : {n i : ℕ} {ns is : List ℕ} → i < n → Sample ns is → Neighbours (n ∷ ns) (i ∷ is) (suc i ∷ is)
   later : {n i : ℕ} {ns is js : List ℕ} → i ≤ n → Neighbours ns is js → Neighbours (n ∷ ns) (i ∷ is) (i ∷ js)
 
--- A long step of an object with the values f: neighbours more than one cell apart. `tooLong` is true exactly where there is one.
+-- A long step of an object with the values f: neighbours more than one cell apart. `tooLong` is true exactly where
+-- there is one.
 pub record LongStep (s : ℕ) (counts : List ℕ) (f : List ℕ → ℕ) : Type 0 where
   pub from : List ℕ
   pub to : List ℕ
   pub neighbours : Neighbours counts from to
   pub far : T (farApart s (f from) (f to))
 
--- Samples that follow one another along the first parameter: i and i + 1 of a curve, neighbours along t in any row of a patch.
+-- Samples that follow one another along the first parameter: i and i + 1 of a curve, neighbours along t in any row of
+-- a patch.
 pub data Follows : List ℕ → List ℕ → List ℕ → Type 0 where
   next : {n i : ℕ} {ns is : List ℕ} → i < n → Sample ns is → Follows (n ∷ ns) (i ∷ is) (suc i ∷ is)
