@@ -21,8 +21,7 @@ points [] = 1
 points (n ∷ ns) = 4 * points ns
 
 -- The numerator of a sample's exact value, where g k is the coordinate of point number k: the same weights along each
--- parameter. The point numbers of the parameters after the first run fastest, so a patch's g(i, j) is point number 4
--- × i + j.
+-- parameter. The later parameters' indices run fastest, so that g(i, j) of a patch is point number 4 × i + j.
 unfoldable pub value : (counts : List ℕ) (g : ℕ → ℕ) (sample : List ℕ) → ℕ
 value [] g is = g 0
 value (n ∷ ns) g [] = 0

@@ -8,7 +8,7 @@ use lib.Dec.{T}
 use lib.ListN.{length, getD}
 use Rattle.walk.specs.Walk.{withinHalf}
 use Rattle.drawing.specs.Cube.{Cell, Inside, place, volume}
-use Rattle.drawing.specs.Object.{Object, unit, exact, cellOf}
+use Rattle.drawing.specs.Object.{Object, scaleOf, exact, cellOf}
 use Rattle.drawing.specs.Refusals.{Drawable}
 use Rattle.drawing.specs.Drawing.{drawn}
 use Rattle.drawing.proofs.Cube.{place-below, place-injective, volume-injective}
@@ -71,7 +71,7 @@ module _ (S : ℕ) (start : List ℕ) (cube : length start ≡ volume S) where
             its-mark = m .marks .its-mark;
             sample = p .sample;
             is-sample = p .is-sample;
-            is-near = λ a. subst (λ k. T (withinHalf (unit o) k (exact o a (p .sample)))) (sym (same a))
+            is-near = λ a. subst (λ k. T (withinHalf (scaleOf o) k (exact o a (p .sample)))) (sym (same a))
                 (cell-within d (p .is-sample) a);
           }
 

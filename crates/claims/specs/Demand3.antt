@@ -10,7 +10,7 @@ use Rattle.decide.specs.Refusal.{accepted}
 use Rattle.walk.specs.Walk.{withinHalf, NextTo}
 use Rattle.walk.specs.Steps.{Follows}
 use Rattle.drawing.specs.Cube.{Axis, Cell, Inside, place, volume}
-use Rattle.drawing.specs.Object.{Object, curve, patch, unit, exact, cellOf}
+use Rattle.drawing.specs.Object.{Object, curve, patch, scaleOf, exact, cellOf}
 use Rattle.drawing.specs.Refusals.{drawVerdict}
 use Rattle.drawing.specs.Drawing.{drawn}
 
@@ -43,7 +43,7 @@ Accepted gridLength call = drawVerdict (sideOf call) gridLength (objectOf call) 
 
 -- A sample lies within half a cell of a cell on every axis.
 abbrev pub SampleNear : (o : Object) (sample : List ℕ) (c : Cell) → Type 0
-SampleNear o sample c = (a : Axis) → T (withinHalf (unit o) (c a) (exact o a sample))
+SampleNear o sample c = (a : Axis) → T (withinHalf (scaleOf o) (c a) (exact o a sample))
 
 -- A byte is the mark of an accepted object of the list that has an exact sample within half a cell of the cell on
 -- every axis.

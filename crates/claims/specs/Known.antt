@@ -6,7 +6,7 @@ use Prim.Native.Nat.{ℕ, _+_, _-_}
 use lib.Dec.{eqb}
 use Rattle.decide.specs.Refusal.{Verdict, accepted, refused}
 use Rattle.drawing.specs.Cube.{x-axis, volume}
-use Rattle.drawing.specs.Object.{Object, curve, patch, unit, exact, cellOf}
+use Rattle.drawing.specs.Object.{Object, curve, patch, scaleOf, exact, cellOf}
 use Rattle.drawing.specs.Refusals.{drawVerdict}
 use Rattle.drawing.specs.Drawing.{row, bytes}
 
@@ -84,7 +84,7 @@ does o n is (cells xs) =
 does o n is accepts = isAccepted (drawVerdict 8 (volume 8) o)
 does o n is (refuses k) = isRefused k (drawVerdict 8 (volume 8) o)
 does o n is (last-step top bottom) =
-    eqb (exact o x-axis (n ∷ is)) (exact o x-axis ((n - 1) ∷ is) + top) && eqb (unit o) bottom
+    eqb (exact o x-axis (n ∷ is)) (exact o x-axis ((n - 1) ∷ is) + top) && eqb (scaleOf o) bottom
 
 unfoldable pub holds : Known → Bool
 holds (curve-of n xs says) = does (curve n (alongX xs) 1) n [] says

@@ -16,7 +16,7 @@ use Rattle.decide.proofs.Refusal.{NoneApplies, accepted-none}
 use Rattle.walk.specs.Steps.{tooLong, LongStep}
 use Rattle.walk.proofs.Long.{too-long}
 use Rattle.drawing.specs.Cube.{Axis, sideOut, volume}
-use Rattle.drawing.specs.Object.{Object, unit, exact}
+use Rattle.drawing.specs.Object.{Object, scaleOf, exact}
 use Rattle.drawing.specs.Refusals.{countOut, coordinateOut, stepsTooLong, order, drawVerdict, listVerdict}
 use Rattle.drawing.specs.Refusals.{sampleCount, Drawable}
 use Rattle.drawing.proofs.Cube.{some-axis}
@@ -50,13 +50,13 @@ coordinate-in S c = (
 )
 
 -- 15 applies: some axis has a long step.
-pub steps-too-long : (o : Object) → T (stepsTooLong o) ↔ ((a : Axis) × LongStep (unit o) (o .counts) (exact o a))
+pub steps-too-long : (o : Object) → T (stepsTooLong o) ↔ ((a : Axis) × LongStep (scaleOf o) (o .counts) (exact o a))
 unfolding stepsTooLong
 steps-too-long o = (
-  λ t. let w = some-axis (λ a. tooLong (unit o) (o .counts) (exact o a)) .0 t in
-      (w .0, too-long (unit o) (o .counts) (exact o (w .0)) .0 (w .1)),
-  λ w. some-axis (λ a. tooLong (unit o) (o .counts) (exact o a)) .1
-      (w .0, too-long (unit o) (o .counts) (exact o (w .0)) .1 (w .1)),
+  λ t. let w = some-axis (λ a. tooLong (scaleOf o) (o .counts) (exact o a)) .0 t in
+      (w .0, too-long (scaleOf o) (o .counts) (exact o (w .0)) .0 (w .1)),
+  λ w. some-axis (λ a. tooLong (scaleOf o) (o .counts) (exact o a)) .1
+      (w .0, too-long (scaleOf o) (o .counts) (exact o (w .0)) .1 (w .1)),
 )
 
 module _ (p : ℕ → Bool) (l : List ℕ) where

@@ -17,7 +17,7 @@ use Rattle.walk.specs.Steps.{Follows}
 use Rattle.walk.proofs.Half.{within-half, within-half-below, within-half-whole}
 use Rattle.walk.proofs.Accuracy.{origin, cell-within-half, follows-next-to}
 use Rattle.drawing.specs.Cube.{Axis, Inside}
-use Rattle.drawing.specs.Object.{Object, unit, coordinate, offset, exact, cellOf}
+use Rattle.drawing.specs.Object.{Object, scaleOf, coordinate, offset, exact, cellOf}
 use Rattle.drawing.specs.Refusals.{Drawable}
 
 -- The sample with every index 0 is the corner of point 0.
@@ -31,8 +31,8 @@ whole-within-half s c = within-half s c (s * c) .1 (omega arith, omega arith)
 
 module _ {S : ℕ} {o : Object} (d : Drawable S o) where
   -- The scale of a drawable object is not 0.
-  pub unit-positive : 0 < unit o
-  unit-positive = scale-positive (o .counts) (d .count-least)
+  pub scale-of-positive : 0 < scaleOf o
+  scale-of-positive = scale-positive (o .counts) (d .count-least)
 
   -- Every coordinate of a point is below the side.
   pub point-below : (a : Axis) (k : ℕ) → coordinate (o .points) a k < S
@@ -45,20 +45,20 @@ module _ {S : ℕ} {o : Object} (d : Drawable S o) where
       (decided (ltb j (length (o .points))))
 
   -- A cell within half a cell of a sample on an axis is inside the cube on that axis.
-  pub near-inside : (a : Axis) {is : List ℕ} {c : ℕ} → Sample (o .counts) is → T (withinHalf (unit o) c (exact o a is)) → c < S
+  pub near-inside : (a : Axis) {is : List ℕ} {c : ℕ} → Sample (o .counts) is → T (withinHalf (scaleOf o) c (exact o a is)) → c < S
   unfolding exact
   near-inside a {is} {c} b t =
-      let top : exact o a is ≤ unit o * (S - 1) =
+      let top : exact o a is ≤ scaleOf o * (S - 1) =
       value-below (coordinate (o .points) a) (S - 1) b (λ k h. omega (arith, point-below a k)) in
-      omega (arith, within-half-below (unit o) c (exact o a is) (S - 1) unit-positive t top, d .side-least)
+      omega (arith, within-half-below (scaleOf o) c (exact o a is) (S - 1) scale-of-positive t top, d .side-least)
 
   -- A sample's cell is within half a cell of its exact value, on every axis.
-  pub cell-within : {is : List ℕ} → Sample (o .counts) is → (a : Axis) → T (withinHalf (unit o) (cellOf o is a) (exact o a is))
+  pub cell-within : {is : List ℕ} → Sample (o .counts) is → (a : Axis) → T (withinHalf (scaleOf o) (cellOf o is a) (exact o a is))
   unfolding cellOf exact
   cell-within b a =
-      cell-within-half (unit o) (coordinate (o .points) a 0) (exact o a) b
+      cell-within-half (scaleOf o) (coordinate (o .points) a 0) (exact o a) b
       (rw (corner-value (coordinate (o .points) a) (origin-corner (o .counts)))
-      (whole-within-half (unit o) (coordinate (o .points) a 0)))
+      (whole-within-half (scaleOf o) (coordinate (o .points) a 0)))
       (d .steps-short a)
 
   -- A sample's cell is a cell of the cube.
@@ -69,11 +69,11 @@ module _ {S : ℕ} {o : Object} (d : Drawable S o) where
   pub corner-cell : {is : List ℕ} {p : ℕ} → Corner (o .counts) is p → (a : Axis) → cellOf o is a ≡ coordinate (o .points) a p
   unfolding exact
   corner-cell {is} {p} c a =
-      within-half-whole (unit o) (cellOf o is a) (coordinate (o .points) a p) unit-positive
+      within-half-whole (scaleOf o) (cellOf o is a) (coordinate (o .points) a p) scale-of-positive
       (rw (corner-value (coordinate (o .points) a) c) at (cell-within (corner-sample c) a))
 
 -- The cells of samples that follow one another differ by at most one, on every axis.
 pub cells-next-to : (o : Object) {is js : List ℕ} → Follows (o .counts) is js → (a : Axis) →
     NextTo (cellOf o is a) (cellOf o js a)
 unfolding cellOf
-cells-next-to o f a = follows-next-to (unit o) (coordinate (o .points) a 0) (exact o a) f
+cells-next-to o f a = follows-next-to (scaleOf o) (coordinate (o .points) a 0) (exact o a) f

@@ -12,7 +12,7 @@ use Rattle.decide.proofs.Refusal.{NoneApplies, here, there, refused-first, pass
 use Rattle.decide.proofs.Truth.{true-of}
 use Rattle.walk.specs.Steps.{LongStep}
 use Rattle.drawing.specs.Cube.{Axis}
-use Rattle.drawing.specs.Object.{Object, unit, exact}
+use Rattle.drawing.specs.Object.{Object, scaleOf, exact}
 use Rattle.drawing.specs.Refusals.{order, stepsTooLong}
 use Rattle.drawing.proofs.Accepted.{steps-too-long}
 
@@ -25,7 +25,7 @@ module _ (S : ℕ) (o : Object) (g m l : Bool) where
   -- What passes every other check is refused for its steps exactly where some axis has a long step.
   pub refused-for-steps :
       (firstThat (order S o g m l) ≡ refused 15) ↔
-      (NoneApplies (take 6 (order S o g m l)) × ((a : Axis) × LongStep (unit o) (o .counts) (exact o a)))
+      (NoneApplies (take 6 (order S o g m l)) × ((a : Axis) × LongStep (scaleOf o) (o .counts) (exact o a)))
   unfolding order
   refused-for-steps = (
     λ e. let r0 = passed-over (refused-first (order S o g m l) 15 .0 e) (omega arith) in

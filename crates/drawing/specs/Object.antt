@@ -34,13 +34,13 @@ coordinate points a k = getD points (3 * k + offset a) 0
 
 module _ (o : Object) where
   -- The scale of the exact values: N.
-  abbrev pub unit : ℕ
-  unit = scale (o .counts)
+  abbrev pub scaleOf : ℕ
+  scaleOf = scale (o .counts)
 
-  -- The exact value of a sample on an axis, over `unit`.
+  -- The exact value of a sample on an axis, over `scaleOf`.
   unfoldable pub exact : Axis → List ℕ → ℕ
   exact a is = value (o .counts) (coordinate (o .points) a) is
 
   -- The cell of a sample: the walk from point 0, on each axis.
   unfoldable pub cellOf : List ℕ → Cell
-  cellOf is a = cell unit (coordinate (o .points) a 0) (exact a) is
+  cellOf is a = cell scaleOf (coordinate (o .points) a 0) (exact a) is

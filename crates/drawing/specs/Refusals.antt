@@ -8,7 +8,7 @@ use Rattle.decide.specs.Some.{someOf}
 use Rattle.decide.specs.Refusal.{Rule, _when_, Verdict, firstThat}
 use Rattle.walk.specs.Steps.{tooLong, LongStep}
 use Rattle.drawing.specs.Cube.{Axis, sideOut, someAxis, volume}
-use Rattle.drawing.specs.Object.{Object, unit, exact}
+use Rattle.drawing.specs.Object.{Object, scaleOf, exact}
 
 -- 13: a step count outside its range.
 unfoldable pub countOut : (most n : ℕ) → Bool
@@ -20,7 +20,7 @@ coordinateOut S c = not (ltb c S)
 
 -- 15: steps too long, on some axis.
 unfoldable pub stepsTooLong : Object → Bool
-stepsTooLong o = someAxis (λ a. tooLong (unit o) (o .counts) (exact o a))
+stepsTooLong o = someAxis (λ a. tooLong (scaleOf o) (o .counts) (exact o a))
 
 -- The number of samples: n + 1, or (n + 1) × (m + 1).
 unfoldable pub sampleCount : List ℕ → ℕ
@@ -54,4 +54,4 @@ pub record Drawable (S : ℕ) (o : Object) : Type 0 where
   pub count-least : (k : ℕ) → k < length (o .counts) → 1 ≤ getD (o .counts) k 0
   pub count-most : (k : ℕ) → k < length (o .counts) → getD (o .counts) k 0 ≤ o .most
   pub coordinate-below : (k : ℕ) → k < length (o .points) → getD (o .points) k 0 < S
-  pub steps-short : (a : Axis) → ¬ LongStep (unit o) (o .counts) (exact o a)
+  pub steps-short : (a : Axis) → ¬ LongStep (scaleOf o) (o .counts) (exact o a)

@@ -1,6 +1,6 @@
 -- Document 01, "Exact samples and the walk", the walk on one axis: from the exact values of an object's samples to
--- the coordinates of their cells. A value is the numerator v over the scale s; a coordinate c stands for s × c over
--- s. Both are doubled, so that a half is whole too.
+-- the coordinates of their cells. A value is the numerator v over the scale s; a coordinate c is s × c over s.
+-- Both are doubled, so that a half is whole too.
 use mathlib.Core.Bool.{Bool, cond, _&&_}
 use mathlib.Core.List.{List, [], _∷_}
 use Prim.Native.Nat.{ℕ, zero, suc, pred, _+_, _*_, _≤_}
@@ -24,9 +24,9 @@ unfoldable pub walk : (s : ℕ) (f : ℕ → ℕ) (c i : ℕ) → ℕ
 walk s f c zero = c
 walk s f c (suc i) = move s (walk s f c i) (f (suc i))
 
--- The coordinate of a sample's cell, where f gives the exact value of every sample and c is the coordinate of point
--- 0. The later parameters are walked first, through 0 of the earlier ones: in a patch, the walk along u through t = 0
--- gives each row's first cell, and each row then walks along t. A curve is walked along t alone.
+-- The coordinate of a sample's cell, where f gives the exact value of every sample and c is point 0's coordinate. The
+-- later parameters are walked first, through 0 of the earlier ones: in a patch, the walk along u through t = 0 gives
+-- each row's first cell, and each row then walks along t. A curve is walked along t alone.
 unfoldable pub cell : (s c : ℕ) (f : List ℕ → ℕ) (sample : List ℕ) → ℕ
 cell s c f [] = c
 cell s c f (i ∷ is) = walk s (λ k. f (k ∷ is)) (cell s c (λ js. f (zero ∷ js)) is) i
