@@ -7,11 +7,11 @@ use Prim.Native.Nat.{ℕ}
 use lib.Dec.{T}
 use lib.ListN.{length, getD}
 use Rattle.walk.specs.Walk.{withinHalf}
-use Rattle.drawing.specs.Cube.{Cell, Inside, place, volume}
+use Rattle.cube.specs.Cube.{Cell, Inside, place, volume}
 use Rattle.drawing.specs.Object.{Object, scaleOf, exact, cellOf}
 use Rattle.drawing.specs.Refusals.{Drawable}
 use Rattle.drawing.specs.Drawing.{drawn}
-use Rattle.drawing.proofs.Cube.{place-below, place-injective, volume-injective}
+use Rattle.cube.proofs.Places.{place-below, place-injective, volume-injective}
 use Rattle.drawing.proofs.Accepted.{draw-accepted}
 use Rattle.drawing.proofs.Cells.{cell-within, cell-inside, cells-next-to}
 use Rattle.drawing.proofs.Drawn.{PlaceOfSample, length-drawn, drawn-holds, drawn-there}

@@ -5,7 +5,7 @@ use Rattle.decide.specs.Some.{someBelow, someOf}
 use Rattle.decide.specs.Refusal.{firstThat}
 use Rattle.walk.specs.Walk.{withinHalf, towards, move, walk, cell}
 use Rattle.walk.specs.Steps.{farApart, someSample, tooLong}
-use Rattle.drawing.specs.Cube.{someAxis, sideOut}
+use Rattle.cube.specs.Cube.{someAxis, sideOut}
 use Rattle.drawing.specs.Object.{offset, coordinate, exact, cellOf}
 use Rattle.drawing.specs.Refusals.{countOut, coordinateOut, stepsTooLong, order, drawVerdict}
 use Rattle.drawing.specs.Drawing.{row, bytes}

@@ -4,8 +4,8 @@ use mathlib.Core.Logic.{inl, inr, ⊎-elim}
 use mathlib.Core.List.{List, [], _∷_, _++_, map, map-append}
 use Prim.Native.Nat.{ℕ}
 use lib.ListN.{length, getD, length-replicate, getD-replicate}
-use Rattle.drawing.specs.Cube.{place, volume}
-use Rattle.drawing.proofs.Cube.{place-below}
+use Rattle.cube.specs.Cube.{place, volume}
+use Rattle.cube.proofs.Places.{place-below}
 use Rattle.claims.specs.Demand3.{MarkOfNearObject, Demand3}
 use Rattle.claims.specs.Strokes.{Stroke, unmarked, callOf, drawing, StrokesDrawn}
 use Rattle.claims.proofs.Demand3.{claim}

@@ -9,7 +9,7 @@ use Rattle.bezier.specs.Exact.{Sample}
 use Rattle.decide.specs.Refusal.{accepted}
 use Rattle.walk.specs.Walk.{withinHalf, NextTo}
 use Rattle.walk.specs.Steps.{Follows}
-use Rattle.drawing.specs.Cube.{Axis, Cell, Inside, place, volume}
+use Rattle.cube.specs.Cube.{Axis, Cell, Inside, place, volume}
 use Rattle.drawing.specs.Object.{Object, curve, patch, scaleOf, exact, cellOf}
 use Rattle.drawing.specs.Refusals.{drawVerdict}
 use Rattle.drawing.specs.Drawing.{drawn}

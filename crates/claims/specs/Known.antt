@@ -5,7 +5,7 @@ use mathlib.Core.List.{List, [], _∷_, map}
 use Prim.Native.Nat.{ℕ, _+_, _-_}
 use lib.Dec.{eqb}
 use Rattle.decide.specs.Refusal.{Verdict, accepted, refused}
-use Rattle.drawing.specs.Cube.{x-axis, volume}
+use Rattle.cube.specs.Cube.{x-axis, volume}
 use Rattle.drawing.specs.Object.{Object, curve, patch, scaleOf, exact, cellOf}
 use Rattle.drawing.specs.Refusals.{drawVerdict}
 use Rattle.drawing.specs.Drawing.{row, bytes}

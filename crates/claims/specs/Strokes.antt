@@ -5,7 +5,7 @@ use mathlib.Core.Logic.{_⊎_}
 use mathlib.Core.List.{List, [], _∷_, _++_, map}
 use Prim.Native.Nat.{ℕ}
 use lib.ListN.{getD, replicate}
-use Rattle.drawing.specs.Cube.{Cell, Inside, place, volume}
+use Rattle.cube.specs.Cube.{Cell, Inside, place, volume}
 use Rattle.drawing.specs.Object.{curve}
 use Rattle.claims.specs.Demand3.{Call, draw-curve, run, Accepted, MarkOfNearObject, JustDrawn}
 

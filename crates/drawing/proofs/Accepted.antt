@@ -15,20 +15,11 @@ use Rattle.decide.proofs.Some.{some-of}
 use Rattle.decide.proofs.Refusal.{NoneApplies, accepted-none}
 use Rattle.walk.specs.Steps.{tooLong, LongStep}
 use Rattle.walk.proofs.Long.{too-long}
-use Rattle.drawing.specs.Cube.{Axis, sideOut, volume}
+use Rattle.cube.specs.Cube.{Axis, volume}
 use Rattle.drawing.specs.Object.{Object, scaleOf, exact}
 use Rattle.drawing.specs.Refusals.{countOut, coordinateOut, stepsTooLong, order, drawVerdict, listVerdict}
 use Rattle.drawing.specs.Refusals.{sampleCount, Drawable}
-use Rattle.drawing.proofs.Cube.{some-axis}
-
--- 11 does not apply.
-pub side-in : (S : ℕ) → (¬ T (sideOut S)) ↔ ((2 ≤ S) × (S ≤ 64))
-unfolding sideOut
-side-in S = (
-  λ f. let p = neither (ltb S 2) (ltb 64 S) .0 f in (not-less S 2 (p .0), not-less 64 S (p .1)),
-  λ h. neither (ltb S 2) (ltb 64 S) .1
-      (λ t. omega (arith, less S 2 .0 t, h .0), λ t. omega (arith, less 64 S .0 t, h .1)),
-)
+use Rattle.cube.proofs.Words.{side-in, some-axis}
 
 -- 13 does not apply to a count.
 pub count-in : (most n : ℕ) → (¬ T (countOut most n)) ↔ ((1 ≤ n) × (n ≤ most))

@@ -16,7 +16,7 @@ use Rattle.walk.specs.Walk.{withinHalf, NextTo}
 use Rattle.walk.specs.Steps.{Follows}
 use Rattle.walk.proofs.Half.{within-half, within-half-below, within-half-whole}
 use Rattle.walk.proofs.Accuracy.{origin, cell-within-half, follows-next-to}
-use Rattle.drawing.specs.Cube.{Axis, Inside}
+use Rattle.cube.specs.Cube.{Axis, Inside}
 use Rattle.drawing.specs.Object.{Object, scaleOf, coordinate, offset, exact, cellOf}
 use Rattle.drawing.specs.Refusals.{Drawable}
 

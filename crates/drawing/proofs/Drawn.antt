@@ -8,11 +8,11 @@ use lib.ListN.{length, getD}
 use Rattle.bezier.specs.Exact.{Sample}
 use Rattle.decide.specs.Refusal.{accepted, refused}
 use Rattle.decide.proofs.Refusal.{by-verdict}
-use Rattle.drawing.specs.Cube.{place}
+use Rattle.cube.specs.Cube.{place}
 use Rattle.drawing.specs.Object.{Object, cellOf}
 use Rattle.drawing.specs.Refusals.{drawVerdict}
 use Rattle.drawing.specs.Drawing.{samples, marked, cells, drawn}
-use Rattle.drawing.proofs.Cube.{place-below}
+use Rattle.cube.proofs.Places.{place-below}
 use Rattle.drawing.proofs.Samples.{sample-listed, listed-sample}
 use Rattle.drawing.proofs.Marked.{length-marked, marked-holds, marked-there}
 use Rattle.drawing.proofs.Accepted.{draw-accepted}

@@ -1,7 +1,6 @@
--- `Cube`: places of cells. `Samples`: the samples that a drawing goes through. `Marked`: what a grid holds after
--- marks. `Accepted`: what acceptance says. `Cells`: the cells of an accepted object. `Orders`: the refusal numbers in
--- document 01's order. `Drawn`: one drawing in words. `Listed`: one listing.
-pub mod Cube
+-- `Samples`: the samples that a drawing goes through. `Marked`: what a grid holds after marks. `Accepted`: what
+-- acceptance says. `Cells`: the cells of an accepted object. `Orders`: the refusal numbers in document 01's order.
+-- `Drawn`: one drawing in words. `Listed`: one listing.
 pub mod Samples
 pub mod Marked
 pub mod Accepted

@@ -11,7 +11,7 @@ use lib.Seq.{getD-append-add, getD-drop, getD-at}
 use Rattle.decide.proofs.Some.{below-or-last}
 use Rattle.decide.specs.Refusal.{accepted, refused}
 use Rattle.decide.proofs.Refusal.{by-verdict}
-use Rattle.drawing.specs.Cube.{Axis, x-axis, y-axis, z-axis, Cell}
+use Rattle.cube.specs.Cube.{Axis, x-axis, y-axis, z-axis, Cell}
 use Rattle.drawing.specs.Object.{Object, curve, offset, cellOf}
 use Rattle.drawing.specs.Refusals.{listVerdict, sampleCount}
 use Rattle.drawing.specs.Drawing.{row, rows, samples, bytes, cells, listed}

@@ -4,7 +4,7 @@ use mathlib.Core.List.{List, [], _∷_, _++_, map}
 use Prim.Native.Nat.{ℕ, zero, suc}
 use lib.ListN.{length, drop, set}
 use Rattle.decide.specs.Refusal.{Verdict, accepted, refused}
-use Rattle.drawing.specs.Cube.{x-axis, y-axis, z-axis, Cell, place}
+use Rattle.cube.specs.Cube.{x-axis, y-axis, z-axis, Cell, place}
 use Rattle.drawing.specs.Object.{Object, cellOf}
 use Rattle.drawing.specs.Refusals.{drawVerdict, listVerdict}
 

@@ -5,7 +5,7 @@ use Prim.Native.Nat.{ℕ, _+_, _*_}
 use lib.ListN.{getD}
 use Rattle.bezier.specs.Exact.{scale, value}
 use Rattle.walk.specs.Walk.{cell}
-use Rattle.drawing.specs.Cube.{Axis, x-axis, y-axis, z-axis, Cell}
+use Rattle.cube.specs.Cube.{Axis, x-axis, y-axis, z-axis, Cell}
 
 -- What a call draws: step counts, one a parameter, each 1 to `most`; the points' coordinates, three a point; a mark.
 pub record Object : Type 0 where

@@ -1,31 +1,11 @@
 -- Places of cells: each cell of a cube stands at a byte of its grid, and different cells at different bytes. The
 -- three coordinates are the place's digits to the base S.
 use mathlib.Core.Path.{_≡_, sym}
-use mathlib.Core.Logic.{_↔_, inl, inr, ⊎-elim}
-use mathlib.Core.Bool.{Bool, _||_}
 use Prim.Native.Nat.{ℕ, _+_, _*_, _≤_, _<_}
 use native.Mathlib.Nat.{le-of-lt, lt-of-le-of-lt, mul-le-mul, mul-le-mul-left, mul-le-mul-right}
 use native.Mathlib.Nat.{mul-lt-mul-of-pos-left, mul-pos}
 use native.Mathlib.Omega.{arith}
-use lib.Dec.{T}
-use Rattle.decide.proofs.Truth.{either}
-use Rattle.drawing.specs.Cube.{Axis, x-axis, y-axis, z-axis, someAxis, Cell, Inside, volume, place}
-
--- Some axis passes.
-pub some-axis : (p : Axis → Bool) → T (someAxis p) ↔ ((a : Axis) × T (p a))
-unfolding someAxis
-some-axis p = (
-  λ t. ⊎-elim
-      (λ u. ⊎-elim (λ v. (x-axis, v)) (λ v. (y-axis, v)) (either (p x-axis) (p y-axis) .0 u))
-      (λ v. (z-axis, v))
-      (either (p x-axis || p y-axis) (p z-axis) .0 t),
-  λ w. seen (w .0) (w .1),
-)
-  where
-    seen : (a : Axis) → T (p a) → T (p x-axis || p y-axis || p z-axis)
-    seen x-axis t = either (p x-axis || p y-axis) (p z-axis) .1 (inl (either (p x-axis) (p y-axis) .1 (inl t)))
-    seen y-axis t = either (p x-axis || p y-axis) (p z-axis) .1 (inl (either (p x-axis) (p y-axis) .1 (inr t)))
-    seen z-axis t = either (p x-axis || p y-axis) (p z-axis) .1 (inr t)
+use Rattle.cube.specs.Cube.{Axis, x-axis, y-axis, z-axis, Cell, Inside, volume, place}
 
 -- A digit a to the base S, and p above it.
 digit-below : {S a p q : ℕ} → a < S → p < q → a + S * p < S * q

@@ -1,0 +1,2 @@
+-- `Cube`: document 01, "The colour cube".
+pub mod Cube

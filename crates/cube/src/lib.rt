@@ -1,0 +1,1 @@
+// The colour cube: definitions in specs/, laws in proofs/.
