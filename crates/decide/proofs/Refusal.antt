@@ -1,12 +1,12 @@
 -- The first number that applies, in words: no number exactly where no rule applies, and otherwise the number of a
 -- rule that applies while none before it does.
-use mathlib.Core.Path.{_≡_, refl}
+use mathlib.Core.Path.{_≡_, refl, sym, _∙_}
 use mathlib.Core.Logic.{_↔_, _≢_, _⊎_, inl, inr, ⊎-elim}
 use mathlib.Core.Bool.{Bool, true, false, cond}
-use mathlib.Core.List.{List, [], _∷_}
+use mathlib.Core.List.{List, [], _∷_, _++_}
 use Prim.Native.Nat.{ℕ}
 use native.Mathlib.Omega.{arith}
-use Rattle.decide.specs.Refusal.{Rule, Verdict, accepted, refused, firstThat}
+use Rattle.decide.specs.Refusal.{Rule, _when_, Verdict, accepted, refused, firstThat, orElse}
 
 -- No rule of the order applies.
 abbrev pub NoneApplies : List Rule → Type 0
@@ -80,3 +80,35 @@ only-left (here a e) = a
 pub by-verdict : (v : Verdict) (P : Type 0) → (v ≡ accepted → P) → ((k : ℕ) → v ≡ refused k → P) → P
 by-verdict accepted P f g = f refl
 by-verdict (refused k) P f g = g k refl
+
+module _ (k : ℕ) (b : Bool) (rules : List Rule) where
+  -- A number whose test is true is the first.
+  pub first-applies : b ≡ true → firstThat (k when b ∷ rules) ≡ refused k
+  unfolding firstThat
+  first-applies e = rw e
+
+  -- A number whose test is false is passed over.
+  pub first-passes : b ≡ false → firstThat (k when b ∷ rules) ≡ firstThat rules
+  unfolding firstThat
+  first-passes e = rw e
+
+-- Two orders in a row answer the first's number, if it has one, and else the second's.
+pub first-append : (a b : List Rule) → firstThat (a ++ b) ≡ orElse (firstThat a) (firstThat b)
+unfolding firstThat
+first-append [] b = refl
+first-append (r ∷ a) b = by-test (r .applies) (first-append a b)
+  where
+    by-test : (t : Bool) → firstThat (a ++ b) ≡ orElse (firstThat a) (firstThat b) →
+        cond t (refused (r .number)) (firstThat (a ++ b)) ≡
+        orElse (cond t (refused (r .number)) (firstThat a)) (firstThat b)
+    by-test true e = refl
+    by-test false e = e
+
+both-accepted : (v w : Verdict) → orElse v w ≡ accepted → (v ≡ accepted) × (w ≡ accepted)
+both-accepted accepted w e = (refl, e)
+both-accepted (refused k) w e = (e, cc)
+
+-- Where two orders in a row answer no number, neither does.
+pub accepted-append : (a b : List Rule) →
+    firstThat (a ++ b) ≡ accepted → (firstThat a ≡ accepted) × (firstThat b ≡ accepted)
+accepted-append a b e = both-accepted (firstThat a) (firstThat b) (sym (first-append a b) ∙ e)

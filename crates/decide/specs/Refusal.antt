@@ -26,3 +26,8 @@ firstThat (r ∷ rs) = cond (r .applies) (refused (r .number)) (firstThat rs)
 unfoldable pub numbers : List Rule → List ℕ
 numbers [] = []
 numbers (r ∷ rs) = r .number ∷ numbers rs
+
+-- One verdict after another: the number of the first if it has one, and else the second's.
+abbrev pub orElse : Verdict → Verdict → Verdict
+orElse (refused k) other = refused k
+orElse accepted other = other
