@@ -92,6 +92,16 @@ module _ (k : ℕ) (b : Bool) (rules : List Rule) where
   unfolding firstThat
   first-passes e = rw e
 
+  -- Where no number is answered, the first test is false and no later number is answered.
+  pub accepted-passes : firstThat (k when b ∷ rules) ≡ accepted → (b ≡ false) × (firstThat rules ≡ accepted)
+  unfolding firstThat step
+  accepted-passes = step-accepted (k when b) (firstThat rules) .0
+
+-- No rule answers no number.
+pub first-empty : firstThat [] ≡ accepted
+unfolding firstThat
+first-empty = refl
+
 -- Two orders in a row answer the first's number, if it has one, and else the second's.
 pub first-append : (a b : List Rule) → firstThat (a ++ b) ≡ orElse (firstThat a) (firstThat b)
 unfolding firstThat

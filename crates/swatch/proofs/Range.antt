@@ -1,0 +1,76 @@
+-- A channel that is not refused lies from 0 to 1: past 31 it is finite, and past 32 neither below 0 nor above 1.
+use mathlib.Core.Path.{_≡_, refl, sym, ap, _∙_, subst}
+use mathlib.Core.Bool.{Bool, true, false, _&&_, _||_}
+use mathlib.Core.List.{[], _∷_, _++_}
+use Prim.Native.Nat.{_+_, _*_, _≤_}
+use native.Mathlib.Omega.{arith}
+use borrow.Author.Tests.{ltb-false, not-false}
+use lib.Dec.{T}
+use lib.Ieee.{Float, nan, inf, fin, up, down, lt}
+use lib.Ieee.Fits.{up-pos}
+use lib.Ieee.Scale.{finite}
+use Rattle.decide.specs.Refusal.{_when_, firstThat, orElse, accepted}
+use Rattle.decide.proofs.Refusal.{accepted-passes, first-append, accepted-append}
+use Rattle.swatch.specs.declared.Rgb.{Rgb}
+use Rattle.swatch.specs.Channel.{zero32, one32, inRange, infiniteOrNan, outside, channelRefusals}
+use Rattle.swatch.specs.declared.Swatch.{Swatch}
+use Rattle.swatch.specs.Swatch.{channelsOf, rgbRefusals, swatchRefusals, AllInRange}
+use Rattle.swatch.proofs.Order.{size-zero, range-of}
+
+-- The finite values are those between the two infinities.
+pub finite-between : (v : Float) → (lt (inf true) v && lt v (inf false)) ≡ finite v
+unfolding lt
+finite-between nan = refl
+finite-between (inf true) = refl
+finite-between (inf false) = refl
+finite-between (fin s m e) = refl
+
+-- Where one test or another would do and neither does, both are false.
+or-false : (a b : Bool) → (a || b) ≡ false → (a ≡ false) × (b ≡ false)
+or-false true b h = (h, cc)
+or-false false b h = (refl, h)
+
+-- A finite value that is not outside lies from 0 to 1.
+inside : (v : Float) → T (finite v) → outside v ≡ false → T (inRange v)
+unfolding outside
+inside nan F h = absurd F
+inside (inf s) F h = absurd F
+inside (fin true m e) F h =
+    let r = or-false (lt (fin true m e) zero32) (lt one32 (fin true m e)) h in
+    let a : m * up e * 1 + 0 * down e ≤ 0 = ltb-false 0 (m * up e * 1 + 0 * down e) (r .0) in
+    range-of (fin true m e) (λ k. size-zero m (up e) (up-pos e) (omega arith)) (omega arith)
+inside (fin false m e) F h =
+    let r = or-false (lt (fin false m e) zero32) (lt one32 (fin false m e)) h in
+    let a : m * up e * 1 ≤ 1 * down e = ltb-false (1 * down e) (m * up e * 1) (r .1) in
+    range-of (fin false m e) (λ k. absurd k) (omega arith)
+
+-- A channel with no refusal lies from 0 to 1.
+pub channel-in-range : (v : Float) → firstThat (channelRefusals v) ≡ accepted → T (inRange v)
+channel-in-range v h =
+    let r = accepted-passes 31 (infiniteOrNan v) (32 when outside v ∷ []) h in
+    let q = accepted-passes 32 (outside v) [] (r .1) in
+    inside v (subst T (sym (not-false (finite v) (r .0))) tt) (q .0)
+
+-- The number of three channels is red's, or else green's, or else blue's.
+pub rgb-first : (c : Rgb) → firstThat (rgbRefusals c)
+    ≡ orElse (firstThat (channelRefusals (c .red)))
+    (orElse (firstThat (channelRefusals (c .green))) (firstThat (channelRefusals (c .blue))))
+rgb-first c =
+    first-append (channelRefusals (c .red)) (channelRefusals (c .green) ++ channelRefusals (c .blue))
+    ∙ ap (orElse (firstThat (channelRefusals (c .red))))
+    (first-append (channelRefusals (c .green)) (channelRefusals (c .blue)))
+
+-- Three channels with no refusal lie from 0 to 1.
+pub rgb-in-range : (c : Rgb) → firstThat (rgbRefusals c) ≡ accepted → AllInRange c
+rgb-in-range c h =
+    let r = accepted-append (channelRefusals (c .red)) (channelRefusals (c .green) ++ channelRefusals (c .blue)) h in
+    let g = accepted-append (channelRefusals (c .green)) (channelRefusals (c .blue)) (r .1) in
+    record {
+      red = channel-in-range (c .red) (r .0);
+      green = channel-in-range (c .green) (g .0);
+      blue = channel-in-range (c .blue) (g .1);
+    }
+
+-- The channels of a swatch with no refusal lie from 0 to 1.
+pub swatch-in-range : (w : Swatch) → firstThat (swatchRefusals w) ≡ accepted → AllInRange (channelsOf w)
+swatch-in-range w h = rgb-in-range (channelsOf w) h

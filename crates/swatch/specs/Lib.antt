@@ -1,0 +1,6 @@
+pub mod Verdict
+pub mod Channel
+pub mod Coordinate
+pub mod Swatch
+pub mod ToCell
+pub mod HalfWay

@@ -1,0 +1,132 @@
+// Swatches: colours given as f32 channels, which become cells of the colour cube or are mixed half-way.
+mod channel;
+
+ghost use mathlib.Core.Path.{_≡_};
+ghost use Prim.Native.Nat.{_≤_};
+ghost use Rattle.decide.specs.Refusal.{firstThat, orElse};
+ghost use Rattle.swatch.specs.Verdict.{verdictOf};
+ghost use Rattle.swatch.specs.Swatch.{channelsOf, swatchRefusals, AllInRange};
+ghost use Rattle.swatch.specs.ToCell.{IsCell, CellSays};
+ghost use Rattle.swatch.specs.HalfWay.{IsHalfWay, HalfWaySays};
+
+// Three f32 channels.
+pub struct Rgb {
+    pub red: f32,
+    pub green: f32,
+    pub blue: f32,
+}
+
+// Three channels, or a grey that stands for three equal ones.
+pub enum Swatch {
+    Color(Rgb),
+    Grey(f32),
+}
+
+// A cell of the colour cube.
+pub struct Cell {
+    pub x: u8,
+    pub y: u8,
+    pub z: u8,
+}
+
+// The refusal's number, or the swatch's cell.
+pub enum CellAnswer {
+    Refused(u32),
+    Found(Cell),
+}
+
+// The refusal's number, or the half-way swatch, always of three channels.
+pub enum HalfWayAnswer {
+    Refused(u32),
+    Mixed(Rgb),
+}
+
+// What a check finds: nothing to refuse, or the number of the first refusal.
+enum Verdict {
+    Accepted,
+    Refused(u32),
+}
+
+// The cell of a swatch in the cube of the given side. Refused: 11 for the side, then 31 or 32 for red, green and blue.
+pub fn to_cell(side: u32, swatch: Swatch) -> CellAnswer
+    ensures { λ r. ⌜ CellSays side swatch r ⌝ }
+{
+    if side < 2 || 64 < side {
+        return CellAnswer::Refused(11);
+    }
+    match swatch_verdict(swatch) {
+        Verdict::Refused(n) => CellAnswer::Refused(n),
+        Verdict::Accepted => CellAnswer::Found(rgb_cell(side, channels(swatch))),
+    }
+}
+
+// The swatch half-way between two. Refused: 31 or 32 for the channels of the first, then of the second.
+pub fn half_way(a: Swatch, b: Swatch) -> HalfWayAnswer
+    ensures { λ r. ⌜ HalfWaySays a b r ⌝ }
+{
+    match first_verdict(swatch_verdict(a), swatch_verdict(b)) {
+        Verdict::Refused(n) => HalfWayAnswer::Refused(n),
+        Verdict::Accepted => HalfWayAnswer::Mixed(rgb_half_way(channels(a), channels(b))),
+    }
+}
+
+// The three channels that a swatch stands for.
+fn channels(swatch: Swatch) -> Rgb
+    ensures { λ r. ⌜ r ≡ channelsOf swatch ⌝ }
+{
+    match swatch {
+        Swatch::Color(c) => c,
+        Swatch::Grey(g) => Rgb {
+            red: g,
+            green: g,
+            blue: g,
+        },
+    }
+}
+
+// The first of two refusals.
+fn first_verdict(a: Verdict, b: Verdict) -> Verdict
+    ensures { λ r. ⌜ verdictOf r ≡ orElse (verdictOf a) (verdictOf b) ⌝ }
+{
+    match a {
+        Verdict::Refused(n) => Verdict::Refused(n),
+        Verdict::Accepted => b,
+    }
+}
+
+// The first refusal of a swatch.
+fn swatch_verdict(swatch: Swatch) -> Verdict
+    ensures { λ r. ⌜ verdictOf r ≡ firstThat (swatchRefusals swatch) ⌝ }
+{
+    let c = channels(swatch);
+    first_verdict(
+        channel::verdict(c.red),
+        first_verdict(channel::verdict(c.green), channel::verdict(c.blue)),
+    )
+}
+
+// The cell of three accepted channels.
+fn rgb_cell(side: u32, c: Rgb) -> Cell
+    requires { ⌜ (2 ≤ side) × (side ≤ 64) ⌝ }
+    requires { ⌜ AllInRange c ⌝ }
+    ensures { λ r. ⌜ IsCell side c r ⌝ }
+{
+    Cell {
+        x: channel::coordinate(side, c.red),
+        y: channel::coordinate(side, c.green),
+        z: channel::coordinate(side, c.blue),
+    }
+}
+
+// Half-way between accepted channels, one by one.
+fn rgb_half_way(a: Rgb, b: Rgb) -> Rgb
+    requires { ⌜ AllInRange a ⌝ }
+    requires { ⌜ AllInRange b ⌝ }
+    ensures { λ r. ⌜ IsHalfWay a b r ⌝ }
+{
+    Rgb {
+        red: channel::half_way(a.red, b.red),
+        green: channel::half_way(a.green, b.green),
+        blue: channel::half_way(a.blue, b.blue),
+    }
+}

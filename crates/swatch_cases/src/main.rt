@@ -1,0 +1,194 @@
+// Runs stored cases of swatches: reads case records from standard input and writes an answer record for each.
+//
+//     C side red green blue                 the cell of three channels
+//     G side grey                           the cell of a grey
+//     H red green blue red green blue       half-way between two swatches of three channels
+//     I red green blue grey                 half-way from three channels to a grey
+//     J grey red green blue                 half-way from a grey to three channels
+//     K grey grey                           half-way between two greys
+//
+// A channel is the bit pattern of its f32. Numbers that a case does not use are 0. The answers are
+//
+//     R number                              refused (decimal)
+//     C x y z                               a cell (decimal)
+//     H red green blue                      the half-way swatch (bit patterns)
+//     B                                     no such case
+//
+// Once the input has ended and all of it is answered, END is written, so what a failed read or write cuts short shows.
+mod record;
+
+ghost use mathlib.Core.Path.{_≡_};
+ghost use Prim.Native.Nat.{_*_, _≤_};
+ghost use lib.ListN.{length};
+ghost use lib.Ieee.{binary32, ofBits, toBits};
+use record::Answer;
+use swatch::CellAnswer;
+use swatch::HalfWayAnswer;
+use swatch::Rgb;
+use swatch::Swatch;
+
+// Whether there may be more input, it has ended, or reading or writing failed.
+enum Progress {
+    More,
+    Ended,
+    Failed,
+}
+
+// A loop has to end, and nothing says that the input does: it counts down from a number that no run uses up.
+fn main() {
+    let mut turns = u64::MAX;
+    while turns > 0 {
+        match answer_block() {
+            Progress::More => {}
+            Progress::Ended => {
+                io::write_all(libc::STDOUT_FILENO, b"END\n");
+                return;
+            }
+            Progress::Failed => {
+                io::write_all(libc::STDERR_FILENO, b"swatch_cases: stopped\n");
+                return;
+            }
+        }
+        turns -= 1;
+    }
+}
+
+// Answers the next 1,024 cases, or as many as are left.
+fn answer_block() -> Progress {
+    let mut cases = [0u8; 65536];
+    let mut answers = [0u8; 29696];
+    answer_input(&mut cases, &mut answers)
+}
+
+// Reads cases until their buffer is full or the input ends, and writes the answers.
+fn answer_input(cases: &mut [u8], answers: &mut [u8]) -> Progress
+    requires { ⌜ (length (now cases) ≡ 65536) × (length (now answers) ≡ 29696) ⌝ }
+{
+    let input = record::fill(libc::STDIN_FILENO, cases);
+    let count = input.count / 64;
+    if input.failed || input.count % 64 != 0 {
+        return Progress::Failed;
+    }
+    answer_cases(cases, count, answers);
+    if !io::write_all(libc::STDOUT_FILENO, &answers[..count * 29]) {
+        return Progress::Failed;
+    }
+    if count < 1024 {
+        Progress::Ended
+    } else {
+        Progress::More
+    }
+}
+
+// Answers each case with the record of the same number.
+fn answer_cases(cases: &[u8], count: usize, answers: &mut [u8])
+    requires { ⌜ count * 64 ≤ length (now cases) ⌝ }
+    requires { ⌜ count * 29 ≤ length (now answers) ⌝ }
+    ensures { λ _. ⌜ length (now (answers .exit)) ≡ length (now (answers .entry)) ⌝ }
+{
+    let mut k = 0;
+    while k < count {
+        let answer = answer_case(&cases[k * 64..k * 64 + 64]);
+        record::put_answer(answer, answers, k * 29);
+        k += 1;
+    }
+}
+
+// The answer to one case.
+fn answer_case(case: &[u8]) -> Answer
+    requires { ⌜ length (now case) ≡ 64 ⌝ }
+{
+    if !record::is_case(case) {
+        return record::no_answer();
+    }
+    let letter = case[0];
+    if letter == b'C' {
+        return cell_answer(swatch::to_cell(record::number(case, 0), color(case, 1)));
+    }
+    if letter == b'G' {
+        return cell_answer(swatch::to_cell(record::number(case, 0), grey(case, 1)));
+    }
+    if letter == b'H' {
+        return half_way_answer(swatch::half_way(color(case, 0), color(case, 3)));
+    }
+    if letter == b'I' {
+        return half_way_answer(swatch::half_way(color(case, 0), grey(case, 3)));
+    }
+    if letter == b'J' {
+        return half_way_answer(swatch::half_way(grey(case, 0), color(case, 1)));
+    }
+    if letter == b'K' {
+        return half_way_answer(swatch::half_way(grey(case, 0), grey(case, 1)));
+    }
+    record::no_answer()
+}
+
+// The swatch of three channels from the case's number k on.
+fn color(case: &[u8], k: usize) -> Swatch
+    requires { ⌜ length (now case) ≡ 64 ⌝ }
+    requires { ⌜ k ≤ 4 ⌝ }
+{
+    Swatch::Color(Rgb {
+        red: channel(record::number(case, k)),
+        green: channel(record::number(case, k + 1)),
+        blue: channel(record::number(case, k + 2)),
+    })
+}
+
+// The swatch of one grey, the case's number k.
+fn grey(case: &[u8], k: usize) -> Swatch
+    requires { ⌜ length (now case) ≡ 64 ⌝ }
+    requires { ⌜ k ≤ 6 ⌝ }
+{
+    Swatch::Grey(channel(record::number(case, k)))
+}
+
+fn cell_answer(answer: CellAnswer) -> Answer {
+    match answer {
+        CellAnswer::Refused(n) => Answer {
+            letter: b'R',
+            hexadecimal: false,
+            numbers: [n, 0, 0],
+        },
+        CellAnswer::Found(c) => Answer {
+            letter: b'C',
+            hexadecimal: false,
+            numbers: [c.x as u32, c.y as u32, c.z as u32],
+        },
+    }
+}
+
+fn half_way_answer(answer: HalfWayAnswer) -> Answer {
+    match answer {
+        HalfWayAnswer::Refused(n) => Answer {
+            letter: b'R',
+            hexadecimal: false,
+            numbers: [n, 0, 0],
+        },
+        HalfWayAnswer::Mixed(c) => Answer {
+            letter: b'H',
+            hexadecimal: true,
+            numbers: [bits(c.red), bits(c.green), bits(c.blue)],
+        },
+    }
+}
+
+// The f32 of a bit pattern, with one NaN for all NaN patterns.
+fn channel(bits: u32) -> f32
+    ensures { λ r. ⌜ r ≡ ofBits binary32 bits ⌝ }
+{
+    if 0x7f80_0000 < bits % 0x8000_0000 {
+        return 0.0 / 0.0;
+    }
+    f32::from_bits(bits)
+}
+
+// The bit pattern of an f32, with one pattern for NaN.
+fn bits(v: f32) -> u32
+    ensures { λ r. ⌜ r ≡ toBits binary32 v ⌝ }
+{
+    if v != v {
+        return 0x7fc0_0000;
+    }
+    f32::to_bits(v)
+}
