@@ -1,6 +1,5 @@
 -- Integers and the bits of signed numbers. A signed local of the code holds bits, so its number is read back as
 -- `toZ w (ofZ w z)`, which is z by `mir.Facts.toZ-ofZ` where z fits the width; the laws here show that it fits.
-use mathlib.Core.Path.{_≡_, sym, _∙_, ap}
 use Prim.Native.Nat.{ℕ, _≤_, _<_, _^_}
 use native.Mathlib.Omega.{arith}
 use lib.IntN.{ℤ, pos, negsuc, natAbs}
@@ -22,7 +21,3 @@ within-fits {z} b h = record { sfits = omega (arith, mag-≤-natAbs z) }
 -- What the machine reads back of an integer within such a bound is within it too.
 pub within-read : (w : Width) {M : ℕ} {z : ℤ} → Within M z → M < 2 ^ hbits w → Within M (toZ w (ofZ w z))
 within-read w b h = rw (toZ-ofZ (within-fits {w = w} b h)) b
-
--- Integers that fit are equal where their bits are: a signed `==` of the code compares bits.
-pub ofZ-injective : {w : Width} {x y : ℤ} → SFits w x → SFits w y → ofZ w x ≡ ofZ w y → x ≡ y
-ofZ-injective {w} f g e = sym (toZ-ofZ f) ∙ ap (toZ w) e ∙ toZ-ofZ g

@@ -22,21 +22,9 @@ pub within-weaken : {M N : ℕ} {z : ℤ} → Within M z → M ≤ N → Within 
 within-weaken b h = record { size = omega arith }
 
 module _ {M : ℕ} {z : ℤ} where
-  -- An integer from −M to M is within M.
-  pub within-between : negℤ (pos M) ≤ℤ z → z ≤ℤ pos M → Within M z
-  within-between = rw (val-of z) (simp zval (omega arith))
-
-  -- An integer within M is at least −M.
-  pub within-lower : Within M z → negℤ (pos M) ≤ℤ z
-  within-lower = rw (val-of z) (simp zval (omega arith))
-
   -- An integer within M is at most M.
   pub within-upper : Within M z → z ≤ℤ pos M
   within-upper = rw (val-of z) (simp zval (omega arith))
-
-  -- A bound holds of the negative too.
-  pub within-neg : Within M z → Within M (negℤ z)
-  within-neg = rw (val-of z) (simp zval (omega arith))
 
 module _ {M N : ℕ} {x y : ℤ} where
   -- The bound of a sum is the sum of the bounds.

@@ -1,0 +1,6 @@
+// The machine of Kaufman's FAST_CURVE and FAST_SURFACE: a cubic by its forward differences, and one axis of a drawing,
+// the same for curves, patches and volumes.
+pub mod axis;
+pub mod basis;
+pub mod differences;
+pub mod long;
