@@ -26,8 +26,8 @@ callOf S s = draw-curve S (s .steps) (s .points) (s .mark)
 abbrev pub drawing : (S : ℕ) → List Stroke → List ℕ
 drawing S strokes = run (map (callOf S) strokes) (unmarked S)
 
--- Demand 3 for strokes: each cell is unmarked or holds the mark of a stroke near it; and so it is just after each
--- stroke.
+-- Demand 3 for strokes: in the end each cell is unmarked or holds the mark of a stroke near it, and just after each
+-- accepted stroke its samples have their cells as demand 3 says.
 pub record StrokesDrawn (S : ℕ) (strokes : List Stroke) : Type 0 where
   pub each-cell : (c : Cell) → Inside S c →
       (getD (drawing S strokes) (place S c) 0 ≡ 0) ⊎
