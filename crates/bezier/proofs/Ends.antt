@@ -30,6 +30,6 @@ unfolding value scale
 corner-value g no-corner = omega arith
 corner-value g (first {n} {p} {ns} c) =
     let e : 0 * points ns + p ≡ p = omega arith in
-    rw (blend-first, corner-value (λ q. g (0 * points ns + q)) c, e) (omega arith)
+    simp (blend-first, corner-value (λ q. g (0 * points ns + q)) c, e) (omega arith)
 corner-value g (last {n} {ns = ns} c) =
-    rw (blend-last, corner-value (λ q. g (3 * points ns + q)) c) (omega arith)
+    simp (blend-last, corner-value (λ q. g (3 * points ns + q)) c) (omega arith)

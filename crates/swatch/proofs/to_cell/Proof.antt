@@ -19,7 +19,7 @@ outside : (c : tie.Joined1) → sideOut (c .before .args .side) ≡ true
 unfolding sideOut
 outside c =
     let side = c .before .args .side in
-    ⊎-elim (λ w. rw (lt-ltb side 2 (w .taken))) (λ w. rw (le-ltb side 2 (w .0 .left), w .1 .taken)) (c .if1 .came)
+    ⊎-elim (λ w. simp (lt-ltb side 2 (w .taken))) (λ w. simp (le-ltb side 2 (w .0 .left), w .1 .taken)) (c .if1 .came)
 
 returns : tie.Need-returns
 returns c =
