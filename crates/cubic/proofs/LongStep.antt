@@ -1,24 +1,15 @@
 -- The long-step test on differences is the test of the definition on two neighbouring values.
-use mathlib.Core.Path.{_≡_, refl, sym, ap₂}
-use mathlib.Core.Bool.{Bool, true, false, _||_}
-use Prim.Native.Nat.{ℕ, suc, _+_, _*_, _≤_, _<_}
+use mathlib.Core.Path.{_≡_, ap₂}
+use mathlib.Core.Bool.{_||_}
+use Prim.Native.Nat.{ℕ, suc, _+_, _*_, _<_}
 use native.Mathlib.Omega.{arith}
-use lib.Dec.{ltb}
 use lib.IntN.{ℤ, pos, _-ℤ_}
-use borrow.Author.Tests.{ltb-true, ltb-false, lt-ltb, le-ltb}
+use Rattle.decide.proofs.Truth.{at-most-agrees}
 use Rattle.integers.proofs.Difference.{zval}
 use Rattle.walk.specs.Steps.{farApart}
 use Rattle.cubic.specs.Differences.{delta}
 use Rattle.cubic.specs.Tracks.{Doubles}
 use Rattle.cubic.specs.Axis.{longOf}
-
--- Two tests agree where the orders do.
-ltb-agree : (a b c d : ℕ) → (a < b → c < d) → (b ≤ a → d ≤ c) → ltb a b ≡ ltb c d
-ltb-agree a b c d f g = by-test (ltb a b) refl
-  where
-    by-test : (t : Bool) → ltb a b ≡ t → t ≡ ltb c d
-    by-test true e = sym (lt-ltb c d (f (ltb-true a b e)))
-    by-test false e = sym (le-ltb c d (g (ltb-false a b e)))
 
 -- The test on twice the difference of two values.
 long-values : (s v w : ℕ) → longOf (pos s) (pos (2 * w) -ℤ pos (2 * v)) ≡ farApart s v w
@@ -26,8 +17,8 @@ unfolding longOf farApart
 long-values s v w =
     simp zval
     (ap₂ (λ p q. p || q)
-    (ltb-agree (s + s + (0 + 2 * v)) (2 * w + 0 + 0) (v + s) w (omega arith) (omega arith))
-    (ltb-agree (2 * w + 0 + (0 + (s + s))) (0 + (0 + 2 * v)) (w + s) v (omega arith) (omega arith)))
+    (at-most-agrees (suc (s + s + (0 + 2 * v))) (2 * w + 0 + 0) (suc (v + s)) w (omega arith) (omega arith))
+    (at-most-agrees (suc (2 * w + 0 + (0 + (s + s)))) (0 + (0 + 2 * v)) (suc (w + s)) v (omega arith) (omega arith)))
 
 -- With d1 the first difference, |d1| > 2N exactly where the neighbouring values lie more than one cell apart.
 pub long-far : {n : ℕ} {f : ℕ → ℕ} {P : ℕ → ℤ} → Doubles n f P → (s : ℕ) {i : ℕ} → i < n →

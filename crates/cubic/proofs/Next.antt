@@ -1,9 +1,10 @@
 -- Equation 8 on a cubic: three additions lead from the differences at i to those at i + 1.
-use mathlib.Core.Path.{_≡_, refl, _∙_, ap}
+use mathlib.Core.Path.{_≡_, refl, sym, _∙_, ap}
 use Prim.Native.Nat.{ℕ, zero, suc}
 use native.Mathlib.Omega.{arith}
-use lib.IntN.{ℤ, pos, _+ℤ_, _-ℤ_}
+use lib.IntN.{ℤ, _+ℤ_, _-ℤ_}
 use Rattle.integers.proofs.Difference.{val-of, zval}
+use Rattle.integers.proofs.Ring.{equal-if-difference-zero}
 use Rattle.cubic.specs.Blend.{samples}
 use Rattle.cubic.specs.Differences.{delta, differencesAt, nextOf, nexts, IsCubic}
 use Rattle.cubic.proofs.Closed.{samples-cubic}
@@ -11,10 +12,6 @@ use Rattle.cubic.proofs.Closed.{samples-cubic}
 -- What is added to a is what b exceeds it by.
 add-difference : (a b : ℤ) → a +ℤ (b -ℤ a) ≡ b
 add-difference a b = rw (val-of a, val-of b) (simp zval (omega arith))
-
--- Integers whose difference is 0 are equal.
-no-difference : (a b : ℤ) → b -ℤ a ≡ pos 0 → a ≡ b
-no-difference a b = rw (val-of a, val-of b) (simp zval (omega arith))
 
 module _ (f : ℕ → ℤ) (i : ℕ) where
   -- Each difference, added to the one below it, leads on by one index.
@@ -25,7 +22,7 @@ module _ (f : ℕ → ℤ) (i : ℕ) where
   -- The third differences of a cubic are all the same.
   pub third-same : IsCubic f → delta 3 f i ≡ delta 3 f (suc i)
   unfolding delta
-  third-same h = no-difference (delta 3 f i) (delta 3 f (suc i)) (h .fourth i)
+  third-same h = sym (equal-if-difference-zero (delta 3 f (suc i)) (delta 3 f i) (h .fourth i))
 
   -- After a next the fields are the value and the differences at the next index.
   pub next-differences : IsCubic f → nextOf (differencesAt f i) ≡ differencesAt f (suc i)

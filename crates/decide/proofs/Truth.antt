@@ -1,6 +1,6 @@
 -- `T b` says that the test b is true. What it says of tests joined by and, or and not, and of tests on numbers.
-use mathlib.Core.Path.{_≡_, refl, sym, subst}
-use mathlib.Core.Logic.{_↔_, _⊎_, inl, inr}
+use mathlib.Core.Path.{_≡_, refl, sym, _∙_, subst}
+use mathlib.Core.Logic.{_↔_, _⊎_, inl, inr, ⊎-elim}
 use mathlib.Core.Bool.{Bool, true, false, _&&_, _||_}
 use Prim.Native.Nat.{ℕ, _≤_, _<_}
 use native.Mathlib.Omega.{arith}
@@ -20,6 +20,11 @@ either false b = (λ t. inr t, λ p. elim p [ inl t ↦ absurd t | inr t ↦ t ]
 pub neither : (a b : Bool) → (¬ T (a || b)) ↔ ((¬ T a) × (¬ T b))
 neither true b = (λ f. absurd (f tt), λ p t. p .0 tt)
 neither false b = (λ f. (λ t. t, f), λ p t. p .1 t)
+
+-- Where one test or the other would do and neither does, both are false.
+pub both-false : (a b : Bool) → (a || b) ≡ false → (a ≡ false) × (b ≡ false)
+both-false true b e = (e, cc)
+both-false false b e = (refl, e)
 
 -- A test is true or it is not.
 pub decided : (b : Bool) → T b ⊎ (¬ T b)
@@ -60,3 +65,11 @@ module _ (m n : ℕ) where
   -- The test of "less" that is not true.
   pub not-less : ¬ T (ltb m n) → n ≤ m
   not-less f = let g : ¬ (m < n) = λ h. f (lt→ltb m n h) in omega arith
+
+-- Two tests of "at most" agree where the orders do.
+pub at-most-agrees : (a b c d : ℕ) → (a ≤ b → c ≤ d) → (b < a → d < c) → leb a b ≡ leb c d
+at-most-agrees a b c d f g =
+    ⊎-elim (λ t. true-of (leb a b) t ∙ sym (true-of (leb c d) (le→leb c d (f (leb→le a b t)))))
+    (λ n. false-of (leb a b) n ∙
+    sym (false-of (leb c d) (λ t. let h = g (not-at-most a b n) in omega (arith, leb→le c d t))))
+    (decided (leb a b))

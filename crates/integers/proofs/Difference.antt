@@ -1,7 +1,7 @@
 -- Each integer is a difference of two naturals, `val p n` = p − n, so a statement on integers becomes one on
 -- naturals: a linear fact on x and y is proved by `rw (val-of x, val-of y) (simp zval (omega arith))`. Its hypotheses
 -- are premises of the goal, and not bound left of the equals sign, so that they are rewritten too.
-use mathlib.Core.Path.{_≡_, refl, sym, ap, subst}
+use mathlib.Core.Path.{_≡_, sym, ap, subst}
 use mathlib.Core.Logic.{_↔_}
 use mathlib.Core.Bool.{Bool, true, false, not, cond}
 use Prim.Native.Nat.{ℕ, zero, suc, _+_, _*_, _-_, _<_, _≤_}
@@ -9,7 +9,8 @@ use native.Mathlib.Omega.{arith}
 use lib.Dec.{T, ltb, leb, ltb→lt, nltb→le, leb→le, le→leb, lt→ltb}
 use lib.IntN.{ℤ, pos, negsuc, negℤ, natAbs, subℕ, _+ℤ_, _*ℤ_}
 use lib.Signed.{leZ, ltZ, _≤ℤ_, _<ℤ_}
-use borrow.Author.Tests.{leb-true, leb-false, le-leb, lt-leb}
+use borrow.Author.Tests.{le-leb, lt-leb}
+use Rattle.decide.proofs.Truth.{at-most-agrees}
 use Rattle.integers.specs.Magnitude.{Within}
 
 -- The integer p − n.
@@ -82,27 +83,19 @@ diff-* {p} {n} {q} {m} (above k e) (below l f) = shift (rw (e, f) (omega arith))
 diff-* {p} {n} {q} {m} (below k e) (above l f) = shift (rw (e, f) (omega arith)) (diff-neg (diff-pos (suc k * l)))
 diff-* {p} {n} {q} {m} (below k e) (below l f) = above (suc k * suc l) (rw (e, f) (omega arith))
 
--- Two tests of order agree where the orders do.
-leb-agree : (a b c d : ℕ) → (a ≤ b → c ≤ d) → (b < a → d < c) → leb a b ≡ leb c d
-leb-agree a b c d f g = by-test (leb a b) refl
-  where
-    by-test : (t : Bool) → leb a b ≡ t → t ≡ leb c d
-    by-test true e = sym (le-leb c d (f (leb-true a b e)))
-    by-test false e = sym (lt-leb c d (g (leb-false a b e)))
-
 -- Two differences are tested for ≤ by their crosswise sums.
 diff-leZ : {p n q m : ℕ} {x y : ℤ} → IsDiff p n x → IsDiff q m y → leZ x y ≡ leb (p + m) (q + n)
-diff-leZ {p} {n} {q} {m} (above k e) (above l f) = leb-agree k l (p + m) (q + n) (omega arith) (omega arith)
+diff-leZ {p} {n} {q} {m} (above k e) (above l f) = at-most-agrees k l (p + m) (q + n) (omega arith) (omega arith)
 diff-leZ {p} {n} {q} {m} (above k e) (below l f) = sym (lt-leb (p + m) (q + n) (omega arith))
 diff-leZ {p} {n} {q} {m} (below k e) (above l f) = sym (le-leb (p + m) (q + n) (omega arith))
-diff-leZ {p} {n} {q} {m} (below k e) (below l f) = leb-agree l k (p + m) (q + n) (omega arith) (omega arith)
+diff-leZ {p} {n} {q} {m} (below k e) (below l f) = at-most-agrees l k (p + m) (q + n) (omega arith) (omega arith)
 
 -- Two differences are tested for < by their crosswise sums.
 diff-ltZ : {p n q m : ℕ} {x y : ℤ} → IsDiff p n x → IsDiff q m y → ltZ x y ≡ ltb (p + m) (q + n)
-diff-ltZ {p} {n} {q} {m} (above k e) (above l f) = leb-agree (suc k) l (suc (p + m)) (q + n) (omega arith) (omega arith)
+diff-ltZ {p} {n} {q} {m} (above k e) (above l f) = at-most-agrees (suc k) l (suc (p + m)) (q + n) (omega arith) (omega arith)
 diff-ltZ {p} {n} {q} {m} (above k e) (below l f) = sym (lt-leb (suc (p + m)) (q + n) (omega arith))
 diff-ltZ {p} {n} {q} {m} (below k e) (above l f) = sym (le-leb (suc (p + m)) (q + n) (omega arith))
-diff-ltZ {p} {n} {q} {m} (below k e) (below l f) = leb-agree (suc l) k (suc (p + m)) (q + n) (omega arith) (omega arith)
+diff-ltZ {p} {n} {q} {m} (below k e) (below l f) = at-most-agrees (suc l) k (suc (p + m)) (q + n) (omega arith) (omega arith)
 
 -- Two pairs of one integer have equal crosswise sums.
 diff-≡ : {p n q m : ℕ} {x : ℤ} → IsDiff p n x → IsDiff q m x → p + m ≡ q + n

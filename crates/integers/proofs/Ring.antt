@@ -43,7 +43,7 @@ normal (a ⊗ b) = mul (normal a) (normal b)
 normal (⊝ a) = negate (normal a)
 
 -- Integers are equal where their difference is zero.
-equal-if-difference-zero : (a b : ℤ) → a -ℤ b ≡ pos 0 → a ≡ b
+pub equal-if-difference-zero : (a b : ℤ) → a -ℤ b ≡ pos 0 → a ≡ b
 equal-if-difference-zero a b = rw (val-of a, val-of b) (simp zval (omega arith))
 
 module _ (ρ : List ℤ) where

@@ -1,6 +1,6 @@
 -- The values from 0 up, minus zero among them, are ordered as their fractions are: the minus stands only before 0.
 use mathlib.Core.Path.{_≡_, refl, sym, ap, _∙_, subst}
-use mathlib.Core.Logic.{_⊎_, inl, inr}
+use mathlib.Core.Logic.{inl, inr}
 use Prim.Native.Nat.{ℕ, _+_, _*_, _≤_, _<_}
 use native.Mathlib.Nat.{
   le-trans,
@@ -22,6 +22,7 @@ use lib.Ieee.{Float, nan, inf, fin, up, down, below, level, le, isNan}
 use lib.Ieee.Fits.{up-pos, and-i, and-l, and-r, eq→eqb}
 use lib.Ieee.Exact.{HasValue}
 use lib.Ieee.Positive.{num, den, den-pos}
+use Rattle.decide.proofs.Truth.{either}
 use Rattle.swatch.specs.Channel.{zero32, one32, inRange}
 
 -- Finite, and not below 0.
@@ -30,29 +31,14 @@ NonNegative nan = ⊥
 NonNegative (inf s) = ⊥
 NonNegative (fin s m e) = T s → m ≡ 0
 
--- One of two tests that are not both false is true.
-or-split : (a b : Bool) → T (a || b) → T a ⊎ T b
-or-split true b t = inl tt
-or-split false b t = inr t
-
--- A test is true where its first part is.
-or-l : (a b : Bool) → T a → T (a || b)
-or-l true b t = tt
-or-l false b t = absurd t
-
--- A test is true where its second part is.
-or-r : (a b : Bool) → T b → T (a || b)
-or-r true b t = tt
-or-r false b t = t
-
 -- Two zeros are level, whatever their signs.
 zeros-level : (r : Bool) (a b : ℕ) → a ≡ b → a ≡ 0 → T (eqb a b && (r || eqb a 0))
-zeros-level r a b e z = and-i (eqb a b) (r || eqb a 0) (eq→eqb e) (or-r r (eqb a 0) (eq→eqb z))
+zeros-level r a b e z = and-i (eqb a b) (r || eqb a 0) (eq→eqb e) (either r (eqb a 0) .1 (inr (eq→eqb z)))
 
 -- ±a at most ±b, with a minus only before 0, says that a ≤ b.
 signed→le : (s t : Bool) (a b : ℕ) → (T s → a ≡ 0) → (T t → b ≡ 0) → T (below s a t b || level s a t b) → a ≤ b
 signed→le false false a b p q h =
-    elim (or-split (ltb a b) (eqb a b && true) h) [
+    elim (either (ltb a b) (eqb a b && true) .0 h) [
       | inl u ↦ le-of-lt (ltb→lt a b u)
       | inr u ↦ le-of-eq (eqb→eq a b (and-l (eqb a b) true u))
     ]
@@ -64,20 +50,20 @@ signed→le true true a b p q h = let z = p tt in omega arith
 le→signed : (s t : Bool) (a b : ℕ) → (T s → a ≡ 0) → (T t → b ≡ 0) → a ≤ b → T (below s a t b || level s a t b)
 le→signed false false a b p q h =
     elim (eq-or-lt-of-le h) [
-      | inl e ↦ or-r (ltb a b) (eqb a b && true) (and-i (eqb a b) true (eq→eqb e) tt)
-      | inr l ↦ or-l (ltb a b) (eqb a b && true) (lt→ltb a b l)
+      | inl e ↦ either (ltb a b) (eqb a b && true) .1 (inr (and-i (eqb a b) true (eq→eqb e) tt))
+      | inr l ↦ either (ltb a b) (eqb a b && true) .1 (inl (lt→ltb a b l))
     ]
 le→signed false true a b p q h = let z = q tt in zeros-level false a b (omega arith) (omega arith)
 le→signed true false a b p q h =
     let z = p tt in
     elim (eq-or-lt-of-le h) [
-      | inl e ↦ or-r (ltb 0 (a + b)) (eqb a b && (false || eqb a 0)) (zeros-level false a b e z)
-      | inr l ↦ or-l (ltb 0 (a + b)) (eqb a b && (false || eqb a 0)) (lt→ltb 0 (a + b) (omega arith))
+      | inl e ↦ either (ltb 0 (a + b)) (eqb a b && (false || eqb a 0)) .1 (inr (zeros-level false a b e z))
+      | inr l ↦ either (ltb 0 (a + b)) (eqb a b && (false || eqb a 0)) .1 (inl (lt→ltb 0 (a + b) (omega arith)))
     ]
 le→signed true true a b p q h =
     let y = p tt in
     let z = q tt in
-    or-r (ltb b a) (eqb a b && true) (and-i (eqb a b) true (eq→eqb {a = a} {b = b} (omega arith)) tt)
+    either (ltb b a) (eqb a b && true) .1 (inr (and-i (eqb a b) true (eq→eqb {a = a} {b = b} (omega arith)) tt))
 
 -- A product is 0 where its first factor is.
 pub zero-size : (m u d : ℕ) → m ≡ 0 → m * u * d ≡ 0

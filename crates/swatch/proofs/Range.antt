@@ -1,6 +1,6 @@
 -- A channel that is not refused lies from 0 to 1: past 31 it is finite, and past 32 neither below 0 nor above 1.
 use mathlib.Core.Path.{_≡_, refl, sym, ap, _∙_, subst}
-use mathlib.Core.Bool.{Bool, true, false, _&&_, _||_}
+use mathlib.Core.Bool.{true, false, _&&_}
 use mathlib.Core.List.{[], _∷_, _++_}
 use Prim.Native.Nat.{_+_, _*_, _≤_}
 use native.Mathlib.Omega.{arith}
@@ -10,6 +10,7 @@ use lib.Ieee.{Float, nan, inf, fin, up, down, lt}
 use lib.Ieee.Fits.{up-pos}
 use lib.Ieee.Scale.{finite}
 use Rattle.decide.specs.Refusal.{_when_, firstThat, orElse, accepted}
+use Rattle.decide.proofs.Truth.{both-false}
 use Rattle.decide.proofs.Refusal.{accepted-passes, first-append, accepted-append}
 use Rattle.swatch.specs.declared.Rgb.{Rgb}
 use Rattle.swatch.specs.Channel.{zero32, one32, inRange, infiniteOrNan, outside, channelRefusals}
@@ -25,22 +26,17 @@ finite-between (inf true) = refl
 finite-between (inf false) = refl
 finite-between (fin s m e) = refl
 
--- Where one test or another would do and neither does, both are false.
-or-false : (a b : Bool) → (a || b) ≡ false → (a ≡ false) × (b ≡ false)
-or-false true b h = (h, cc)
-or-false false b h = (refl, h)
-
 -- A finite value that is not outside lies from 0 to 1.
 inside : (v : Float) → T (finite v) → outside v ≡ false → T (inRange v)
 unfolding outside
 inside nan F h = absurd F
 inside (inf s) F h = absurd F
 inside (fin true m e) F h =
-    let r = or-false (lt (fin true m e) zero32) (lt one32 (fin true m e)) h in
+    let r = both-false (lt (fin true m e) zero32) (lt one32 (fin true m e)) h in
     let a : m * up e * 1 + 0 * down e ≤ 0 = ltb-false 0 (m * up e * 1 + 0 * down e) (r .0) in
     range-of (fin true m e) (λ k. size-zero m (up e) (up-pos e) (omega arith)) (omega arith)
 inside (fin false m e) F h =
-    let r = or-false (lt (fin false m e) zero32) (lt one32 (fin false m e)) h in
+    let r = both-false (lt (fin false m e) zero32) (lt one32 (fin false m e)) h in
     let a : m * up e * 1 ≤ 1 * down e = ltb-false (1 * down e) (m * up e * 1) (r .1) in
     range-of (fin false m e) (λ k. absurd k) (omega arith)
 

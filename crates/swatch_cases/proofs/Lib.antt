@@ -1,1 +1,2 @@
+-- `Nan`: one NaN stands for every NaN pattern.
 pub mod Nan

@@ -1,1 +1,2 @@
+-- `Record`: what a read leaves of a buffer.
 pub mod Record

@@ -1,5 +1,4 @@
 -- `swatch_verdict` meets its contract: red, green and blue in turn.
-
 use borrow.Author.Needs.{needs}
 use Rattle.swatch.proofs.Range.{rgb-first}
 use Rattle.swatch.specs.Swatch.{channelsOf}
