@@ -47,6 +47,10 @@ drawVerdict S gridLength o = firstThat (order S o (not (eqb gridLength (volume S
 unfoldable pub listVerdict : (S listLength : ℕ) (o : Object) → Verdict
 listVerdict S listLength o = firstThat (order S o false false (ltb listLength (3 * sampleCount (o .counts))))
 
+-- A check has neither grid nor list and ignores the record's mark: 11, 13, 14, 15.
+unfoldable pub checkVerdict : (S : ℕ) (o : Object) → Verdict
+checkVerdict S o = firstThat (order S o false false false)
+
 -- What an object and a side must be for none of 11, 13, 14, 15 to apply, in words.
 pub record Drawable (S : ℕ) (o : Object) : Type 0 where
   pub side-least : 2 ≤ S

@@ -1,0 +1,83 @@
+-- A curve along one axis: within the limits the machine may start and go on, and it follows twice the exact values.
+use mathlib.Core.Path.{_≡_, refl}
+use mathlib.Core.List.{[], _∷_}
+use Prim.Native.Nat.{ℕ, zero, suc, _+_, _*_, _≤_, _<_, _^_}
+use native.Mathlib.Nat.{le-trans, mul-le-mul}
+use native.Mathlib.Omega.{arith}
+use lib.Dec.{lit≤, lit<}
+use lib.IntN.{ℤ, pos}
+use lib.ListN.{length, getD}
+use Rattle.bezier.specs.Exact.{scale}
+use Rattle.cube.specs.Cube.{Axis, x-axis, y-axis, z-axis}
+use Rattle.drawing.specs.Object.{offset, coordinate, scaleOf, exact}
+use Rattle.drawing.specs.Refusals.{Drawable}
+use Rattle.cubic.specs.Room.{Each, Startable, Room}
+use Rattle.cubic.specs.Differences.{differencesAt}
+use Rattle.cubic.specs.Tracks.{Doubles}
+use Rattle.cubic.proofs.Exact.{curve-doubles}
+use Rattle.cubic.proofs.Levels.{each-doubled, curve-start, curve-room}
+use Rattle.cubic.proofs.Fits.{Holds, read}
+use Rattle.scan.proofs.Natural.{natural-held}
+use Rattle.curve.specs.declared.Curve.{Curve}
+use Rattle.curve.specs.Curve.{curveOf}
+use Rattle.curve.specs.Machine.{InLimits, twiceAt, doubledAlong}
+
+-- A record has twelve coordinates.
+abbrev pub Twelve : Curve → Type 0
+Twelve c = length (c .points) ≡ 12
+
+-- What can be drawn is within the limits.
+pub drawable-in-limits : {S : ℕ} (c : Curve) → Twelve c → Drawable S (curveOf c) → InLimits c
+drawable-in-limits c twelve d = record {
+  count-least = d .count-least 0 (lit< tt);
+  count-most = d .count-most 0 (lit< tt);
+  coordinates = λ k h. omega (arith, d .coordinate-below k (rw twelve h), d .side-most);
+}
+
+-- The scale is n × n × n.
+pub curve-scale : (c : Curve) → scaleOf (curveOf c) ≡ c .steps * c .steps * c .steps
+unfolding scale
+curve-scale c = omega arith
+
+module _ {c : Curve} (l : InLimits c) where
+  pub scale-small : scaleOf (curveOf c) ≤ 2 ^ 60
+  scale-small =
+      rw (curve-scale c) (le-trans (mul-le-mul (mul-le-mul (l .count-most) (l .count-most)) (l .count-most)) (lit≤ tt))
+
+  -- What a call answers for n × n × n is the scale, and is held.
+  pub scale-held : {r : ℤ} → r ≡ pos (c .steps * c .steps * c .steps) → Holds (2 ^ 60) (pos (scaleOf (curveOf c))) (read r)
+  scale-held e = natural-held (rw (← curve-scale c) at e) scale-small (lit< tt)
+
+  -- Coordinate a of the four points, doubled.
+  controls : (a : ℕ) → a < 3 → Each 126 (twiceAt c 0 a) (twiceAt c 3 a) (twiceAt c 6 a) (twiceAt c 9 a)
+  controls a h =
+      each-doubled
+      (l .coordinates (0 + a) (omega arith)) (l .coordinates (3 + a) (omega arith))
+      (l .coordinates (6 + a) (omega arith)) (l .coordinates (9 + a) (omega arith))
+
+  pub along-start : (a : ℕ) → a < 3 →
+      Startable (pos (c .steps)) (twiceAt c 0 a) (twiceAt c 3 a) (twiceAt c 6 a) (twiceAt c 9 a)
+  along-start a h = curve-start (l .count-most) (controls a h)
+
+  pub along-room : (a : ℕ) → a < 3 → (i : ℕ) → i ≤ c .steps → Room (differencesAt (doubledAlong c a) i)
+  along-room a h = curve-room (l .count-most) (controls a h)
+
+-- The machine follows twice the exact values.
+pub along-doubles : (c : Curve) (a : Axis) →
+    Doubles (c .steps) (λ i. exact (curveOf c) a (i ∷ [])) (doubledAlong c (offset a))
+unfolding exact coordinate
+along-doubles c a = curve-doubles (c .steps) (coordinate (c .points) a)
+
+-- Axes by their numbers.
+pub offset-small : (a : Axis) → offset a < 3
+unfolding offset
+offset-small x-axis = lit< tt
+offset-small y-axis = lit< tt
+offset-small z-axis = lit< tt
+
+pub axis-numbered : (k : ℕ) → k < 3 → (a : Axis) × (offset a ≡ k)
+unfolding offset
+axis-numbered zero h = (x-axis, refl)
+axis-numbered (suc zero) h = (y-axis, refl)
+axis-numbered (suc (suc zero)) h = (z-axis, refl)
+axis-numbered (suc (suc (suc k))) h = absurd (omega arith)

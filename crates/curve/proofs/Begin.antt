@@ -1,0 +1,111 @@
+-- The walker at sample 0, and the row that it walks.
+use mathlib.Core.Path.{_≡_, refl, sym, _∙_, ap}
+use mathlib.Core.List.{List, [], _∷_, _++_, append-nil, map, map-map}
+use Prim.Native.Nat.{ℕ, suc, _*_, _≤_}
+use native.Mathlib.Nat.{le-trans}
+use native.Mathlib.Omega.{arith}
+use lib.Dec.{lit≤}
+use lib.IntN.{pos}
+use lib.ListN.{length, getD, drop}
+use Rattle.integers.proofs.Magnitude.{within-pos}
+use Rattle.decide.specs.Refusal.{accepted}
+use Rattle.bezier.specs.Exact.{Sample, no-index, index, no-corner, first}
+use Rattle.bezier.proofs.Ends.{corner-value}
+use Rattle.walk.specs.Walk.{walk, cell}
+use Rattle.cube.specs.Cube.{Axis, x-axis, y-axis, z-axis}
+use Rattle.drawing.specs.Object.{offset, coordinate, scaleOf, exact, cellOf}
+use Rattle.drawing.specs.Refusals.{Drawable, drawVerdict, listVerdict, sampleCount}
+use Rattle.drawing.specs.Drawing.{row, rows, samples, marked, bytes, cells, drawn, listed}
+use Rattle.drawing.proofs.Listed.{listed-accepted}
+use Rattle.cubic.specs.Differences.{differencesAt}
+use Rattle.cubic.specs.Axis.{startOf}
+use Rattle.cubic.specs.Tracks.{Tracks}
+use Rattle.cubic.proofs.Tracks.{start-tracks}
+use Rattle.scan.specs.declared.walker.Strides.{Strides}
+use Rattle.scan.specs.Walker.{axisOf, strideOf, gridStrides, listStrides, placeOf, cellOfWalker, walkers}
+use Rattle.scan.proofs.Samples.{Row, At, gridStride, grid-stride-is, grid-stride-small, list-stride-is, row-places, row-cells}
+use Rattle.curve.specs.declared.Curve.{Curve}
+use Rattle.curve.specs.Curve.{curveOf}
+use Rattle.curve.specs.Machine.{InLimits, SmallStrides, doubledAlong, startWalker}
+use Rattle.curve.proofs.Along.{Twelve, drawable-in-limits, scale-small, along-room, along-doubles, offset-small}
+
+-- A curve's samples are one row.
+curve-samples : (n : ℕ) → samples (n ∷ []) ≡ row n []
+unfolding samples rows
+curve-samples n = append-nil (row n [])
+
+-- The strides of a grid and of a listing are small.
+small-of : {h : Strides} {stride : Axis → ℕ} → ((a : Axis) → strideOf h a ≡ pos (stride a)) →
+    ((a : Axis) → stride a ≤ 4096) → SmallStrides h
+small-of is small = record { on = λ a. rw (is a) (within-pos (le-trans (small a) (lit≤ tt))) }
+
+pub grid-small : {S : ℕ} → S ≤ 64 → SmallStrides (gridStrides S)
+grid-small {S} h = small-of (grid-stride-is S) (grid-stride-small h)
+
+pub list-small : SmallStrides listStrides
+list-small = small-of {stride = λ a. 1} list-stride-is (λ a. lit≤ tt)
+
+module _ (c : Curve) (h : Strides) where
+  -- Sample 0 on each axis.
+  start-on : (a : Axis) →
+      axisOf (startWalker c h) a ≡
+      startOf (strideOf h a) (pos (coordinate (c .points) a 0)) (differencesAt (doubledAlong c (offset a)) 0)
+  unfolding coordinate offset
+  start-on x-axis = refl
+  start-on y-axis = refl
+  start-on z-axis = refl
+
+  -- The walker starts at sample 0.
+  pub start-at : At (curveOf c) h [] (λ a. doubledAlong c (offset a)) 0 (startWalker c h)
+  unfolding cellOf cell walk exact
+  start-at = record {
+    on = λ a.
+        rw (start-on a)
+        (start-tracks (coordinate (c .points) a 0) (along-doubles c a)
+        (corner-value (coordinate (c .points) a) (first no-corner)) refl);
+  }
+
+module _ {S : ℕ} (c : Curve) (twelve : Twelve c) (d : Drawable S (curveOf c)) where
+  abbrev limits : InLimits c
+  limits = drawable-in-limits c twelve d
+
+  -- A curve is one row, in a grid and in a listing.
+  pub curve-row : (h : Strides) (stride : Axis → ℕ) → ((a : Axis) → strideOf h a ≡ pos (stride a)) →
+      ((a : Axis) → stride a ≤ 4096) → Row S (curveOf c) h (c .steps) [] (λ a. doubledAlong c (offset a))
+  curve-row h stride is small = record {
+    drawable = d;
+    scale-small = scale-small limits;
+    stride = stride;
+    stride-is = is;
+    stride-small = small;
+    sample = λ i l. index l no-index;
+    doubles = along-doubles c;
+    room = λ a. along-room limits (offset a) (offset-small a);
+  }
+
+  pub grid-row : Row S (curveOf c) (gridStrides S) (c .steps) [] (λ a. doubledAlong c (offset a))
+  grid-row = curve-row (gridStrides S) (gridStride S) (grid-stride-is S) (grid-stride-small (d .side-most))
+
+  pub list-row : Row S (curveOf c) listStrides (c .steps) [] (λ a. doubledAlong c (offset a))
+  list-row = curve-row listStrides (λ a. 1) list-stride-is (λ a. lit≤ tt)
+
+  -- What an accepted drawing leaves are the marks of the row.
+  pub drawn-row : (grid : List ℕ) → drawVerdict S (length grid) (curveOf c) ≡ accepted →
+      drawn S (curveOf c) grid ≡
+      marked (c .mark)
+      (map placeOf (walkers (c .steps) (pos (scaleOf (curveOf c))) (gridStrides S) (startWalker c (gridStrides S)))) grid
+  unfolding drawn cells
+  drawn-row grid e =
+      rw (e, curve-samples (c .steps), map-map)
+      (ap (λ ps. marked (c .mark) ps grid) (sym (row-places grid-row (start-at c (gridStrides S)))))
+
+  -- What an accepted listing leaves are the cells of the row.
+  pub listed-row : (list : List ℕ) → listVerdict S (length list) (curveOf c) ≡ accepted →
+      listed S (curveOf c) list ≡
+      bytes (map cellOfWalker (walkers (c .steps) (pos (scaleOf (curveOf c))) listStrides (startWalker c listStrides))) ++
+      drop (3 * suc (c .steps)) list
+  unfolding cells sampleCount
+  listed-row list e =
+      let one : suc (c .steps) * 1 ≡ suc (c .steps) = omega arith in
+      listed-accepted S (curveOf c) list e ∙
+      rw (curve-samples (c .steps), row-cells list-row (start-at c listStrides), one)

@@ -1,0 +1,166 @@
+-- `step_too_long` meets its contract: no step that was passed is too long, and the first that is ends the search.
+use borrow.Author.Needs.{needs}
+use borrow.Author.Count.{below-more}
+use mathlib.Core.Path.{_≡_, refl, sym, _∙_, ap}
+use mathlib.Core.Bool.{true, false}
+use Prim.Native.Nat.{ℕ, suc, _+_, _-_, _≤_, _<_}
+use native.Mathlib.Numerals.{add-one}
+use native.Mathlib.Omega.{arith}
+use lib.Dec.{lit<}
+use lib.IntN.{ℤ, pos}
+use mir.Syntax.{w64}
+use mir.Val.{toZ}
+use Rattle.cubic.specs.declared.differences.Cubic.{Cubic}
+use Rattle.cubic.specs.Axis.{longOf}
+use Rattle.cubic.specs.Differences.{delta, differencesAt, nextOf}
+use Rattle.cubic.proofs.Closed.{samples-cubic}
+use Rattle.cubic.proofs.Next.{next-differences}
+use Rattle.cubic.proofs.Fits.{read, held}
+use Rattle.curve.specs.declared.Curve.{Curve}
+use Rattle.curve.specs.Curve.{curveOf}
+use Rattle.curve.specs.Machine.{InLimits, doubledAlong}
+use Rattle.curve.proofs.Along.{scale-held, along-room}
+use Rattle.curve.proofs.Search.{longAt, found, nowhere}
+use Rattle.curve.proofs.steps.step_too_long.Statement.{statement}
+use Rattle.curve.proofs.steps.step_too_long.Tie as tie
+use Rattle.curve.proofs.steps.step_too_long.Reads as reads
+use Rattle.curve.proofs.steps.step_too_long.Lts as lts
+use Rattle.cubic.proofs.differences.Cubic.next.Reads as next-reads
+use Rattle.cubic.proofs.long.is_long.Reads as is-long-reads
+use Rattle.curve.proofs.steps.cubic_along.Reads as cubic-along-reads
+use Rattle.scan.proofs.number.cubed.Reads as cubed-reads
+
+abbrev Inv-loop : tie.InvT-loop
+Inv-loop curve scale last found₀ a c₀ i₀ found c i =
+    (found ≡ false) × (i < curve .steps) × (c ≡ differencesAt (doubledAlong curve a) i) ×
+    ((k : ℕ) → k < i → longAt curve a k ≡ false)
+
+abbrev μ-loop : tie.MeasureT-loop
+μ-loop curve scale last found₀ a c₀ i₀ found c i = last - i
+
+abbrev Inv-search : tie.InvT-search
+Inv-search curve scale last found₀ a₀ found a =
+    (found ≡ false) × (a ≤ 3) × ((b : ℕ) → b < a → (k : ℕ) → k < curve .steps → longAt curve b k ≡ false)
+
+abbrev μ-search : tie.MeasureT-search
+μ-search curve scale last found₀ a₀ found a = 3 - a
+
+cubed-requires : tie.Need-cubed-requires Inv-loop μ-loop Inv-search μ-search
+cubed-requires c κs = c .pre .count-most
+
+sub-last : tie.Need-sub-last Inv-loop μ-loop Inv-search μ-search
+sub-last c = c .before .before .pre .count-least
+
+search-holds : tie.Need-search-holds Inv-loop μ-loop Inv-search μ-search
+search-holds c = (refl, omega arith, λ b h. absurd (omega arith))
+
+cubic-along-requires : tie.Need-cubic-along-requires Inv-loop μ-loop Inv-search μ-search
+cubic-along-requires c κs = (c .before .before .before .before .pre, c .search-test .taken)
+
+loop-holds : tie.Need-loop-holds Inv-loop μ-loop Inv-search μ-search
+loop-holds c =
+    let s = c .before .before .before .before .before in
+    (c .before .before .search .inv .0, omega (arith, s .pre .count-least), c .cubic-along .ensures, λ k h. absurd (omega arith))
+
+is-long-requires : tie.Need-is-long-requires Inv-loop μ-loop Inv-search μ-search
+is-long-requires c κs =
+    let b = c .before .before .before .before .before .before in
+    let h = scale-held (b .before .pre) (b .cubed .ensures) in
+    rw (h .same) (h .size)
+
+-- The test is that of the present step.
+module _ (c : tie.After-is-long Inv-loop μ-loop Inv-search μ-search) where
+  abbrev curve : Curve
+  curve = c .before .before .before .before .before .before .before .before .args .curve
+
+  abbrev axis : ℕ
+  axis = c .before .before .before .before .before .search .a
+
+  abbrev at : ℕ
+  at = c .before .before .loop .i
+
+  tests : c .is-long .result ≡ longAt curve axis at
+  unfolding differencesAt
+  tests =
+      let l = c .before .before in
+      let b = l .before .before .before .before .before in
+      let p = b .before .pre in
+      let room = along-room p axis (l .before .before .search-test .taken) at (omega (arith, l .loop .inv .1)) in
+      rw (scale-held p (b .cubed .ensures) .same, l .loop .inv .2, held (room .d1) (lit< tt) .same) at (c .is-long .ensures)
+
+next-requires : tie.Need-next-requires Inv-loop μ-loop Inv-search μ-search
+next-requires c κs =
+    let l = c .before .before .before .before in
+    let p = l .before .before .before .before .before .before .pre in
+    rw (l .loop .inv .2)
+    (along-room p (l .before .before .before .search .a) (l .before .before .search-test .taken) (l .loop .i)
+    (omega (arith, l .loop .inv .1)))
+
+add-i : tie.Need-add-i Inv-loop μ-loop Inv-search μ-search
+add-i c = search needs
+
+loop-less : tie.Need-loop-less Inv-loop μ-loop Inv-search μ-search
+loop-less c = search needs
+
+loop-again : tie.Need-loop-again Inv-loop μ-loop Inv-search μ-search
+loop-again c =
+    let t = c .before .before .before in
+    let l = t .before .before .loop in (
+      l .inv .0,
+      omega (arith, l .inv .1, c .before .if2 .left),
+      rw add-one (c .next .ensures ∙ ap nextOf (l .inv .2) ∙ next-differences _ (l .i) (samples-cubic _ _ _ _ _)),
+      below-more _ _ (l .inv .3) (sym (tests t) ∙ c .before .before .if1 .left),
+    )
+
+add-a : tie.Need-add-a Inv-loop μ-loop Inv-search μ-search
+add-a c = search needs
+
+search-less : tie.Need-search-less Inv-loop μ-loop Inv-search μ-search
+search-less c = search needs
+
+search-again : tie.Need-search-again Inv-loop μ-loop Inv-search μ-search
+search-again c =
+    let t = c .before .before in
+    let o = t .before .before .before .before .before in
+    let l = t .before .before .loop in (
+      l .inv .0,
+      omega (arith, o .search .inv .1),
+      below-more _ _ (o .search .inv .2)
+          (λ k h. below-more _ _ (l .inv .3) (sym (tests t) ∙ c .before .if1 .left) k (omega (arith, c .if2 .taken))),
+    )
+
+returns : tie.Need-returns Inv-loop μ-loop Inv-search μ-search
+returns c =
+    let o = c .before in
+    o .search .inv .0 ∙
+    sym (nowhere _ (λ a i ha hi. o .search .inv .2 a (omega (arith, c .search-test .left)) i hi))
+
+returns-2 : tie.Need-returns-2 Inv-loop μ-loop Inv-search μ-search
+returns-2 c =
+    let t = c .before in
+    sym (found (curve t) (axis t) (at t) (t .before .before .before .before .search-test .taken)
+    (t .before .before .loop .inv .1) (sym (tests t) ∙ c .if1 .taken))
+
+pub step-too-long-spec : {M : Type 1} → statement M
+step-too-long-spec =
+    tie.close
+    (tie.spec
+    Inv-loop
+    μ-loop
+    Inv-search
+    μ-search
+    cubed-requires
+    sub-last
+    search-holds
+    cubic-along-requires
+    loop-holds
+    is-long-requires
+    next-requires
+    add-i
+    loop-less
+    loop-again
+    add-a
+    search-less
+    search-again
+    returns
+    returns-2)

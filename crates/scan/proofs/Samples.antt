@@ -1,0 +1,170 @@
+-- Walkers follow samples. A walker that stands at sample 0 of a row stands at sample i after i steps: its positions are
+-- those of the sample's cell, and there is room for each step.
+use mathlib.Core.Path.{_≡_, refl, sym, _∙_, ap, ap₂, fun-ext}
+use mathlib.Core.List.{List, [], _∷_, _++_, map, map-append}
+use Prim.Native.Nat.{ℕ, zero, suc, _+_, _*_, _≤_, _<_, _^_, zero-le}
+use native.Mathlib.Nat.{le-trans, mul-le-mul}
+use native.Mathlib.Omega.{arith}
+use lib.Dec.{lit≤}
+use lib.IntN.{ℤ, pos, natAbs, _*ℤ_}
+use Rattle.bezier.specs.Exact.{Sample}
+use Rattle.walk.specs.Walk.{cell, walk}
+use Rattle.cube.specs.Cube.{Axis, x-axis, y-axis, z-axis, volume, place}
+use Rattle.cube.proofs.Places.{place-below}
+use Rattle.drawing.specs.Object.{Object, scaleOf, exact, cellOf}
+use Rattle.drawing.specs.Refusals.{Drawable}
+use Rattle.drawing.specs.Drawing.{row}
+use Rattle.drawing.proofs.Cells.{cell-within, cell-inside}
+use Rattle.cubic.specs.Differences.{differencesAt}
+use Rattle.cubic.specs.Room.{Room}
+use Rattle.cubic.specs.Tracks.{Doubles, Tracks}
+use Rattle.cubic.proofs.Tracks.{step-walks, remainder-half}
+use Rattle.cubic.proofs.Levels.{tracks-steps}
+use Rattle.scan.specs.declared.walker.Walker.{Walker}
+use Rattle.scan.specs.declared.walker.Strides.{Strides}
+use Rattle.scan.specs.Walker.{axisOf, strideOf, gridStrides, listStrides, StepsAll, stepAll, after, HasPlace, placeOf}
+use Rattle.scan.specs.Walker.{IsByte, ByteCell, cellOfWalker, walkers, OnGrid, OnList}
+use Rattle.scan.proofs.Natural.{square-at-most}
+
+-- A row of a drawable object, of n steps with the later indices is: sequences that double its exact values, with room
+-- at every sample, and strides up to 4096.
+pub record Row (S : ℕ) (o : Object) (h : Strides) (n : ℕ) (is : List ℕ) (P : Axis → ℕ → ℤ) : Type 0 where
+  pub drawable : Drawable S o
+  pub scale-small : scaleOf o ≤ 2 ^ 60
+  pub stride : Axis → ℕ
+  pub stride-is : (a : Axis) → strideOf h a ≡ pos (stride a)
+  pub stride-small : (a : Axis) → stride a ≤ 4096
+  pub sample : (i : ℕ) → i ≤ n → Sample (o .counts) (i ∷ is)
+  pub doubles : (a : Axis) → Doubles n (λ i. exact o a (i ∷ is)) (P a)
+  pub room : (a : Axis) (i : ℕ) → i ≤ n → Room (differencesAt (P a) i)
+
+-- The walker stands at sample i of the row.
+pub record At (o : Object) (h : Strides) (is : List ℕ) (P : Axis → ℕ → ℤ) (i : ℕ) (w : Walker) : Type 0 where
+  pub on : (a : Axis) → Tracks (scaleOf o) (strideOf h a) (P a) i (cellOf o (i ∷ is) a) (axisOf w a)
+
+-- A grid's strides.
+pub gridStride : ℕ → Axis → ℕ
+gridStride S x-axis = 1
+gridStride S y-axis = S
+gridStride S z-axis = S * S
+
+pub grid-stride-is : (S : ℕ) (a : Axis) → strideOf (gridStrides S) a ≡ pos (gridStride S a)
+unfolding gridStride
+grid-stride-is S x-axis = refl
+grid-stride-is S y-axis = refl
+grid-stride-is S z-axis = refl
+
+pub grid-stride-small : {S : ℕ} → S ≤ 64 → (a : Axis) → gridStride S a ≤ 4096
+unfolding gridStride
+grid-stride-small h x-axis = lit≤ tt
+grid-stride-small h y-axis = le-trans h (lit≤ tt)
+grid-stride-small h z-axis = square-at-most h
+
+-- A listing's strides.
+pub list-stride-is : (a : Axis) → strideOf listStrides a ≡ pos 1
+list-stride-is x-axis = refl
+list-stride-is y-axis = refl
+list-stride-is z-axis = refl
+
+-- A step on every axis is a step on each.
+step-on : (scale : ℤ) (h : Strides) (w : Walker) (a : Axis) →
+    axisOf (stepAll scale h w) a ≡ Rattle.cubic.specs.Axis.stepOf scale (strideOf h a) (axisOf w a)
+step-on scale h w x-axis = refl
+step-on scale h w y-axis = refl
+step-on scale h w z-axis = refl
+
+module _ {S : ℕ} {o : Object} {h : Strides} {n : ℕ} {is : List ℕ} {P : Axis → ℕ → ℤ} (r : Row S o h n is P) where
+  abbrev N : ℤ
+  N = pos (scaleOf o)
+
+  -- A step leads to the next sample.
+  at-next : {i : ℕ} {w : Walker} → i < n → At o h is P i w → At o h is P (suc i) (stepAll N h w)
+  unfolding cellOf cell
+  at-next {i} {w} l t = record {
+    on = λ a.
+        rw (step-on N h w a) (step-walks (r .doubles a) l (cell (scaleOf o) _ (λ js. exact o a (zero ∷ js)) is) (t .on a));
+  }
+
+  -- After i steps the walker stands at sample i.
+  pub at-after : {w : Walker} → At o h is P 0 w → (i : ℕ) → i ≤ n → At o h is P i (after N h w i)
+  unfolding after
+  at-after t zero l = t
+  at-after t (suc i) l = at-next l (at-after t i (omega arith))
+
+  module _ {i : ℕ} {w : Walker} (l : i ≤ n) (t : At o h is P i w) where
+    -- The coordinates are below 64.
+    below : (a : Axis) → cellOf o (i ∷ is) a ≤ 63
+    below a = omega (arith, cell-inside (r .drawable) (r .sample i l) a, r .drawable .side-most)
+
+    -- There is room for a step.
+    at-steps : StepsAll N h w
+    at-steps = record {
+      on = λ a.
+          rw (r .stride-is a)
+          (tracks-steps (P a) i (rw (r .stride-is a) at (t .on a)) (r .room a i l)
+          (remainder-half (t .on a) (exact o a (i ∷ is)) (r .doubles a .agrees i l) .1
+          (cell-within (r .drawable) (r .sample i l) a))
+          (r .scale-small) (r .stride-small a) (below a));
+    }
+
+    -- Each position is the coordinate times the stride.
+    position : (a : Axis) → axisOf w a .at ≡ pos (r .stride a * cellOf o (i ∷ is) a)
+    position a = t .on a .place ∙ ap (λ z. z *ℤ pos (cellOf o (i ∷ is) a)) (r .stride-is a)
+
+    at-place : HasPlace w
+    at-place = record {
+      position = λ a. r .stride a * cellOf o (i ∷ is) a;
+      is = position;
+      small = λ a. omega (arith, mul-le-mul (r .stride-small a) (below a));
+    }
+
+-- What is read of each walker of a row is what is read of its sample.
+pub row-map : {A : Type 0} (F : Walker → A) (G : List ℕ → A) (scale : ℤ) (h : Strides) (w : Walker) (is : List ℕ) (n : ℕ) →
+    ((i : ℕ) → i ≤ n → F (after scale h w i) ≡ G (i ∷ is)) → map F (walkers n scale h w) ≡ map G (row n is)
+unfolding walkers row after
+row-map F G scale h w is zero e = ap (λ a. a ∷ []) (e zero zero-le)
+row-map F G scale h w is (suc n) e =
+    map-append F (walkers n scale h w) _ ∙
+    ap₂ (λ l a. l ++ a ∷ []) (row-map F G scale h w is n (λ i l. e i (omega arith))) (e (suc n) (omega arith)) ∙
+    sym (map-append G (row n is) _)
+
+module _ {S : ℕ} {o : Object} {n : ℕ} {is : List ℕ} {P : Axis → ℕ → ℤ} {w : Walker} where
+  -- In a grid the walker's place is that of the sample's cell.
+  module _ (r : Row S o (gridStrides S) n is P) (t : At o (gridStrides S) is P 0 w) where
+    pub grid-place : (i : ℕ) → i ≤ n → placeOf (after (N r) (gridStrides S) w i) ≡ place S (cellOf o (i ∷ is))
+    unfolding placeOf place
+    grid-place i l =
+        let u = at-after r t i l in
+        rw (u .on x-axis .place, u .on y-axis .place, u .on z-axis .place) (omega arith)
+
+    pub row-on-grid : OnGrid n (N r) (gridStrides S) w (volume S)
+    row-on-grid = record {
+      steps = λ i l. at-steps r (omega arith) (at-after r t i (omega arith));
+      places = λ i l. at-place r l (at-after r t i l);
+      bytes = λ i l. rw (grid-place i l) (place-below S _ (cell-inside (r .drawable) (r .sample i l)));
+    }
+
+    pub row-places : map placeOf (walkers n (N r) (gridStrides S) w) ≡ map (λ s. place S (cellOf o s)) (row n is)
+    row-places = row-map placeOf (λ s. place S (cellOf o s)) (N r) (gridStrides S) w is n grid-place
+
+  -- In a listing the walker's cell is the sample's.
+  module _ (r : Row S o listStrides n is P) (t : At o listStrides is P 0 w) where
+    list-position : (i : ℕ) → i ≤ n → (a : Axis) → axisOf (after (N r) listStrides w i) a .at ≡ pos (cellOf o (i ∷ is) a)
+    list-position i l a =
+        at-after r t i l .on a .place ∙ ap (λ z. z *ℤ pos (cellOf o (i ∷ is) a)) (list-stride-is a) ∙ ap pos (omega arith)
+
+    pub row-on-list : {len : ℕ} → 3 * suc n ≤ len → OnList n (N r) listStrides w len
+    row-on-list room = record {
+      steps = λ i l. at-steps r (omega arith) (at-after r t i (omega arith));
+      cells = λ i l a. record {
+        byte = cellOf o (i ∷ is) a;
+        is = list-position i l a;
+        small = omega (arith, below r l (at-after r t i l) a);
+      };
+      long = room;
+    }
+
+    pub row-cells : map cellOfWalker (walkers n (N r) listStrides w) ≡ map (cellOf o) (row n is)
+    unfolding cellOfWalker
+    row-cells =
+        row-map cellOfWalker (cellOf o) (N r) listStrides w is n (λ i l. fun-ext (λ a. ap natAbs (list-position i l a)))

@@ -1,0 +1,8 @@
+// Scan conversion, what curves and patches share: the machine on three axes, the writing of cells, the refusals before
+// the step test, and the answers.
+pub mod answer;
+pub mod list;
+pub mod mark;
+pub mod number;
+pub mod refusal;
+pub mod walker;

@@ -1,0 +1,49 @@
+// From the numbers of a record to those of the machine.
+ghost use mathlib.Core.Path.{_≡_};
+ghost use Prim.Native.Nat.{_*_, _≤_};
+ghost use lib.IntN.{pos};
+ghost use Rattle.scan.specs.Walker.{gridStrides};
+use crate::walker::Strides;
+
+// A coordinate.
+pub fn coordinate(c: u8) -> i64
+    ensures { λ r. ⌜ r ≡ pos c ⌝ }
+{
+    c as i64
+}
+
+// Twice a coordinate: the machine works on twice the value.
+pub fn doubled(c: u8) -> i64
+    ensures { λ r. ⌜ r ≡ pos (2 * c) ⌝ }
+{
+    2 * coordinate(c)
+}
+
+// A step count.
+pub fn count(n: u32) -> i64
+    ensures { λ r. ⌜ r ≡ pos n ⌝ }
+{
+    n as i64
+}
+
+// What a step count gives to the scale: n × n × n.
+pub fn cubed(n: u32) -> i64
+    requires { ⌜ n ≤ 512 ⌝ }
+    ensures { λ r. ⌜ r ≡ pos (n * n * n) ⌝ }
+{
+    let k = count(n);
+    k * k * k
+}
+
+// The strides of a grid: 1, S and S × S.
+pub fn grid_strides(side: u32) -> Strides
+    requires { ⌜ side ≤ 64 ⌝ }
+    ensures { λ r. ⌜ r ≡ gridStrides side ⌝ }
+{
+    let s = count(side);
+    Strides {
+        x: 1,
+        y: s,
+        z: s * s,
+    }
+}
