@@ -55,7 +55,7 @@ search-holds : tie.Need-search-holds Inv-loop μ-loop Inv-search μ-search
 search-holds c = (refl, omega arith, λ b h. absurd (omega arith))
 
 cubic-along-requires : tie.Need-cubic-along-requires Inv-loop μ-loop Inv-search μ-search
-cubic-along-requires c κs = (c .before .before .before .before .pre, c .search-test .taken)
+cubic-along-requires c κs = (c .before .before .before .before .pre, omega (arith, c .search-test .taken))
 
 loop-holds : tie.Need-loop-holds Inv-loop μ-loop Inv-search μ-search
 loop-holds c =
@@ -85,7 +85,7 @@ module _ (c : tie.After-is-long Inv-loop μ-loop Inv-search μ-search) where
       let l = c .before .before in
       let b = l .before .before .before .before .before in
       let p = b .before .pre in
-      let room = along-room p axis (l .before .before .search-test .taken) at (omega (arith, l .loop .inv .1)) in
+      let room = along-room p axis (omega (arith, l .before .before .search-test .taken)) at (omega (arith, l .loop .inv .1)) in
       rw (scale-held p (b .cubed .ensures) .same, l .loop .inv .2, held (room .d1) (lit< tt) .same) at (c .is-long .ensures)
 
 next-requires : tie.Need-next-requires Inv-loop μ-loop Inv-search μ-search
@@ -93,7 +93,7 @@ next-requires c κs =
     let l = c .before .before .before .before in
     let p = l .before .before .before .before .before .before .pre in
     rw (l .loop .inv .2)
-    (along-room p (l .before .before .before .search .a) (l .before .before .search-test .taken) (l .loop .i)
+    (along-room p (l .before .before .before .search .a) (omega (arith, l .before .before .search-test .taken)) (l .loop .i)
     (omega (arith, l .loop .inv .1)))
 
 add-i : tie.Need-add-i Inv-loop μ-loop Inv-search μ-search
@@ -138,7 +138,7 @@ returns c =
 returns-2 : tie.Need-returns-2 Inv-loop μ-loop Inv-search μ-search
 returns-2 c =
     let t = c .before in
-    sym (found (curve t) (axis t) (at t) (t .before .before .before .before .search-test .taken)
+    sym (found (curve t) (axis t) (at t) (omega (arith, t .before .before .before .before .search-test .taken))
     (t .before .before .loop .inv .1) (sym (tests t) ∙ c .if1 .taken))
 
 pub step-too-long-spec : {M : Type 1} → statement M

@@ -1,13 +1,16 @@
 -- `Axis::step` meets its contract: one addition keeps the fields within twice their bound, so the decision has room.
+use mathlib.Core.Path.{_≡_}
 use Prim.Native.Nat.{_^_}
 use borrow.Author.Needs.{needs}
 use lib.Dec.{lit<}
+use lib.IntN.{ℤ}
 use Rattle.integers.proofs.Magnitude.{within-add}
 use Rattle.cubic.specs.declared.differences.Cubic.{Cubic}
+use Rattle.cubic.specs.declared.axis.Axis.{Axis}
 use Rattle.cubic.specs.Differences.{nextOf}
-use Rattle.cubic.specs.Axis.{stepOf}
-use Rattle.cubic.specs.Room.{Fields, Room}
-use Rattle.cubic.proofs.Fits.{held, wider}
+use Rattle.cubic.specs.Axis.{settleOf, stepOf}
+use Rattle.cubic.specs.Room.{Fields, Room, Settles, Steps}
+use Rattle.cubic.proofs.Fits.{read, held, wider}
 use Rattle.cubic.proofs.axis.Axis.step.Statement.{statement}
 use Rattle.cubic.proofs.axis.Axis.step.Tie as tie
 
@@ -24,23 +27,23 @@ next-fields p = record {
 next-requires : tie.Need-next-requires
 next-requires c κs = search needs
 
+-- With the scale, the stride and the position as they are read back, and n the next sample's cubic.
+module _ {N h : ℤ} {a : Axis} {n : Cubic} (p : Steps N h a) (e : n ≡ nextOf (a .cubic)) where
+  settles-next : Settles (read N) (read h) (record { at = read (a .at); cubic = n })
+  settles-next =
+      rw (held (p .scale) (lit< tt) .same, held (p .stride) (lit< tt) .same, held (p .at) (lit< tt) .same, e)
+      (record { scale = p .scale; stride = p .stride; at = p .at; cubic = next-fields (p .cubic) })
+
+  settled-next : {r : Axis} → r ≡ settleOf (read N) (read h) (record { at = read (a .at); cubic = n }) → r ≡ stepOf N h a
+  unfolding stepOf
+  settled-next q =
+      rw (held (p .scale) (lit< tt) .same, held (p .stride) (lit< tt) .same, held (p .at) (lit< tt) .same, e) at q
+
 settle-requires : tie.Need-settle-requires
-settle-requires c κs =
-    let p = c .before .before .before .pre in
-    let n = held (p .scale) (lit< tt) in
-    let h = held (p .stride) (lit< tt) in
-    let a = held (p .at) (lit< tt) in
-    rw (n .same, h .same, a .same, c .before .next .ensures)
-    (record { scale = p .scale; stride = p .stride; at = p .at; cubic = next-fields (p .cubic) })
+settle-requires c κs = settles-next (c .before .before .before .pre) (c .before .next .ensures)
 
 returns : tie.Need-returns
-unfolding stepOf
-returns c =
-    let p = c .before .before .before .before .pre in
-    let n = held (p .scale) (lit< tt) in
-    let h = held (p .stride) (lit< tt) in
-    let a = held (p .at) (lit< tt) in
-    rw (n .same, h .same, a .same, c .before .before .next .ensures) at (c .settle .ensures)
+returns c = settled-next (c .before .before .before .before .pre) (c .before .before .next .ensures) (c .settle .ensures)
 
 pub step-spec : {M : Type 1} → statement M
 step-spec = tie.close (tie.spec next-requires settle-requires returns)

@@ -7,6 +7,7 @@ use Rattle.cubic.specs.declared.axis.Axis.{Axis}
 use Rattle.cubic.specs.Axis.{stepOf}
 use Rattle.cubic.specs.Room.{Steps}
 use Rattle.cubic.proofs.Fits.{read, held}
+use Rattle.scan.specs.declared.walker.Walker.{Walker}
 use Rattle.scan.proofs.walker.Walker.step.Statement.{statement}
 use Rattle.scan.proofs.walker.Walker.step.Tie as tie
 
@@ -27,14 +28,18 @@ step-requires-2 c κs = steps-read (c .before .before .before .before .before .b
 step-requires-3 : tie.Need-step-requires-3
 step-requires-3 c κs = steps-read (c .before .before .before .before .before .before .before .before .pre .on z-axis)
 
+-- Walkers with equal axes are equal.
+same-axes : {x x′ y y′ z z′ : Axis} → x ≡ x′ → y ≡ y′ → z ≡ z′ →
+    _≡_ {A = Walker} (record { x = x; y = y; z = z }) (record { x = x′; y = y′; z = z′ })
+same-axes p q r = rw (p, q, r)
+
 returns : tie.Need-returns
 returns c =
     let p = c .before .before .before .before .before .before .before .before .before .pre in
-    rw (
-      step-read (p .on x-axis) (c .before .before .before .before .step .ensures),
-      step-read (p .on y-axis) (c .before .before .step2 .ensures),
-      step-read (p .on z-axis) (c .step3 .ensures),
-    )
+    same-axes
+    (step-read (p .on x-axis) (c .before .before .before .before .step .ensures))
+    (step-read (p .on y-axis) (c .before .before .step2 .ensures))
+    (step-read (p .on z-axis) (c .step3 .ensures))
 
 pub step-spec : {M : Type 1} → statement M
 step-spec = tie.close (tie.spec step-requires step-requires-2 step-requires-3 returns)
