@@ -11,27 +11,25 @@ use Rattle.bezier.specs.Exact.{scale}
 use Rattle.cube.specs.Cube.{Axis, x-axis, y-axis, z-axis}
 use Rattle.drawing.specs.Object.{offset, coordinate, scaleOf, exact}
 use Rattle.drawing.specs.Refusals.{Drawable}
-use Rattle.cubic.specs.Room.{Each, Startable, Room}
+use Rattle.cubic.specs.Room.{Room}
 use Rattle.cubic.specs.Differences.{differencesAt}
 use Rattle.cubic.specs.Tracks.{Doubles}
 use Rattle.cubic.proofs.Exact.{curve-doubles}
-use Rattle.cubic.proofs.Levels.{each-doubled, curve-start, curve-room}
 use Rattle.cubic.proofs.Fits.{Holds, read}
+use Rattle.scan.specs.Column.{InColumn}
+use Rattle.scan.proofs.Column.{column-room}
 use Rattle.scan.proofs.Natural.{natural-held}
 use Rattle.curve.specs.declared.Curve.{Curve}
 use Rattle.curve.specs.Curve.{curveOf}
-use Rattle.curve.specs.Machine.{InLimits, twiceAt, doubledAlong}
-
--- A record has twelve coordinates.
-abbrev pub Twelve : Curve → Type 0
-Twelve c = length (c .points) ≡ 12
+use Rattle.curve.specs.Machine.{InLimits, doubledAlong}
 
 -- What can be drawn is within the limits.
-pub drawable-in-limits : {S : ℕ} (c : Curve) → Twelve c → Drawable S (curveOf c) → InLimits c
+pub drawable-in-limits : {S : ℕ} (c : Curve) → length (c .points) ≡ 12 → Drawable S (curveOf c) → InLimits c
 drawable-in-limits c twelve d = record {
   count-least = d .count-least 0 (lit< tt);
   count-most = d .count-most 0 (lit< tt);
-  coordinates = λ k h. omega (arith, d .coordinate-below k (rw twelve h), d .side-most);
+  twelve = twelve;
+  coordinates = λ b h. omega (arith, d .coordinate-below b h, d .side-most);
 }
 
 -- The scale is n × n × n.
@@ -48,25 +46,23 @@ module _ {c : Curve} (l : InLimits c) where
   pub scale-held : {r : ℤ} → r ≡ pos (c .steps * c .steps * c .steps) → Holds (2 ^ 60) (pos (scaleOf (curveOf c))) (read r)
   scale-held e = natural-held (rw (← curve-scale c) at e) scale-small (lit< tt)
 
-  -- Coordinate a of the four points, doubled.
-  controls : (a : ℕ) → a < 3 → Each 126 (twiceAt c 0 a) (twiceAt c 3 a) (twiceAt c 6 a) (twiceAt c 9 a)
-  controls a h =
-      each-doubled
-      (l .coordinates (0 + a) (omega arith)) (l .coordinates (3 + a) (omega arith))
-      (l .coordinates (6 + a) (omega arith)) (l .coordinates (9 + a) (omega arith))
-
-  pub along-start : (a : ℕ) → a < 3 →
-      Startable (pos (c .steps)) (twiceAt c 0 a) (twiceAt c 3 a) (twiceAt c 6 a) (twiceAt c 9 a)
-  along-start a h = curve-start (l .count-most) (controls a h)
+  pub along-column : (a : ℕ) → a < 3 → InColumn (c .points) (c .steps) 3 a
+  along-column a h = record {
+    count = l .count-most;
+    there = rw (l .twelve) (omega arith);
+    coordinates = l .coordinates;
+  }
 
   pub along-room : (a : ℕ) → a < 3 → (i : ℕ) → i ≤ c .steps → Room (differencesAt (doubledAlong c a) i)
-  along-room a h = curve-room (l .count-most) (controls a h)
+  along-room a h = column-room (along-column a h)
 
 -- The machine follows twice the exact values.
 pub along-doubles : (c : Curve) (a : Axis) →
     Doubles (c .steps) (λ i. exact (curveOf c) a (i ∷ [])) (doubledAlong c (offset a))
-unfolding exact coordinate
-along-doubles c a = curve-doubles (c .steps) (coordinate (c .points) a)
+unfolding exact coordinate offset
+along-doubles c x-axis = curve-doubles (c .steps) (coordinate (c .points) x-axis)
+along-doubles c y-axis = curve-doubles (c .steps) (coordinate (c .points) y-axis)
+along-doubles c z-axis = curve-doubles (c .steps) (coordinate (c .points) z-axis)
 
 -- Axes by their numbers.
 pub offset-small : (a : Axis) → offset a < 3

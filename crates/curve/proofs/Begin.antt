@@ -27,7 +27,7 @@ use Rattle.scan.proofs.Samples.{Row, At, gridStride, grid-stride-is, grid-strid
 use Rattle.curve.specs.declared.Curve.{Curve}
 use Rattle.curve.specs.Curve.{curveOf}
 use Rattle.curve.specs.Machine.{InLimits, SmallStrides, doubledAlong, startWalker}
-use Rattle.curve.proofs.Along.{Twelve, drawable-in-limits, scale-small, along-room, along-doubles, offset-small}
+use Rattle.curve.proofs.Along.{drawable-in-limits, scale-small, along-room, along-doubles, offset-small}
 
 -- A curve's samples are one row.
 curve-samples : (n : ℕ) → samples (n ∷ []) ≡ row n []
@@ -65,7 +65,7 @@ module _ (c : Curve) (h : Strides) where
         (corner-value (coordinate (c .points) a) (first no-corner)) refl);
   }
 
-module _ {S : ℕ} (c : Curve) (twelve : Twelve c) (d : Drawable S (curveOf c)) where
+module _ {S : ℕ} (c : Curve) (twelve : length (c .points) ≡ 12) (d : Drawable S (curveOf c)) where
   abbrev limits : InLimits c
   limits = drawable-in-limits c twelve d
 

@@ -1,12 +1,13 @@
 -- What the machine starts from, and within which limits.
-use Prim.Native.Nat.{ℕ, _+_, _*_, _≤_, _<_, _^_}
+use mathlib.Core.Path.{_≡_}
+use Prim.Native.Nat.{ℕ, _≤_, _^_}
 use lib.IntN.{ℤ, pos}
-use lib.ListN.{getD}
+use lib.ListN.{length, getD}
 use Rattle.integers.specs.Magnitude.{Within}
 use Rattle.cube.specs.Cube.{Axis}
-use Rattle.cubic.specs.Blend.{samples}
 use Rattle.cubic.specs.Differences.{differencesAt}
 use Rattle.cubic.specs.Axis.{startOf}
+use Rattle.scan.specs.Column.{Below64, doubledColumn}
 use Rattle.scan.specs.declared.walker.Strides.{Strides}
 use Rattle.scan.specs.declared.walker.Walker.{Walker}
 use Rattle.scan.specs.Walker.{strideOf}
@@ -16,15 +17,12 @@ use Rattle.curve.specs.declared.Curve.{Curve}
 pub record InLimits (c : Curve) : Type 0 where
   pub count-least : 1 ≤ c .steps
   pub count-most : c .steps ≤ 512
-  pub coordinates : (k : ℕ) → k < 12 → getD (c .points) k 0 ≤ 63
+  pub twelve : length (c .points) ≡ 12
+  pub coordinates : Below64 (c .points)
 
--- Twice coordinate a of the point whose coordinates begin at byte p.
-abbrev pub twiceAt : Curve → (p a : ℕ) → ℤ
-twiceAt c p a = pos (2 * getD (c .points) (p + a) 0)
-
--- Twice the exact values along one axis: the blend of twice coordinate a of each point.
+-- Twice the exact values along one axis, by its number: through coordinate a of each point, three bytes apart.
 abbrev pub doubledAlong : Curve → (a : ℕ) → ℕ → ℤ
-doubledAlong c a = samples (pos (c .steps)) (twiceAt c 0 a) (twiceAt c 3 a) (twiceAt c 6 a) (twiceAt c 9 a)
+doubledAlong c a = doubledColumn (c .points) (c .steps) 3 a
 
 -- Room for a coordinate times the stride.
 abbrev pub SmallStride : ℤ → Type 0

@@ -8,20 +8,14 @@ ghost use Rattle.curve.specs.Machine.{InLimits, doubledAlong};
 use crate::Curve;
 use cubic::differences::Cubic;
 
-// Sample 0 of the cubic along one axis, coordinate a of each point: its doubled value and differences.
+// Sample 0 along one axis, by its number: coordinate a of each point.
 pub(crate) fn cubic_along(curve: Curve, a: usize) -> Cubic
     requires { ⌜ InLimits curve ⌝ }
     requires { ⌜ a < 3 ⌝ }
     ensures { λ r. ⌜ r ≡ differencesAt (doubledAlong curve a) 0 ⌝ }
 {
     let p = curve.points;
-    cubic::differences::start(
-        scan::number::count(curve.steps),
-        scan::number::doubled(p[a]),
-        scan::number::doubled(p[3 + a]),
-        scan::number::doubled(p[6 + a]),
-        scan::number::doubled(p[9 + a]),
-    )
+    scan::number::start_column(&p, curve.steps, 3, a)
 }
 
 // Some two neighbouring samples lie more than one cell apart on some axis. The search is left at the first such step,

@@ -1,5 +1,6 @@
--- `Natural`: natural numbers as the machine holds them. `Orders`: the order of refusals in two parts. `Row`: a row of
+-- `Column`: the cubic through four coordinates. `Natural`: natural numbers as the machine holds them. `Orders`: the order of refusals in two parts. `Row`: a row of
 -- walkers, step by step. `Samples`: walkers follow the samples of a row.
+pub mod Column
 pub mod Natural
 pub mod Orders
 pub mod Row

@@ -2,8 +2,11 @@
 ghost use mathlib.Core.Path.{_≡_};
 ghost use Prim.Native.Nat.{_*_, _≤_};
 ghost use lib.IntN.{pos};
+ghost use Rattle.cubic.specs.Differences.{differencesAt};
+ghost use Rattle.scan.specs.Column.{InColumn, doubledColumn};
 ghost use Rattle.scan.specs.Walker.{gridStrides};
 use crate::walker::Strides;
+use cubic::differences::Cubic;
 
 // A coordinate.
 pub fn coordinate(c: u8) -> i64
@@ -24,6 +27,21 @@ pub fn count(n: u32) -> i64
     ensures { λ r. ⌜ r ≡ pos n ⌝ }
 {
     n as i64
+}
+
+// Sample 0 of the cubic along the first parameter through four coordinates of the points, the first at byte at and each
+// next one gap bytes on: its doubled value and differences.
+pub fn start_column(points: &[u8], n: u32, gap: usize, at: usize) -> Cubic
+    requires { ⌜ InColumn (now points) n gap at ⌝ }
+    ensures { λ r. ⌜ r ≡ differencesAt (doubledColumn (now (points .entry)) n gap at) 0 ⌝ }
+{
+    cubic::differences::start(
+        count(n),
+        doubled(points[at]),
+        doubled(points[gap + at]),
+        doubled(points[2 * gap + at]),
+        doubled(points[3 * gap + at]),
+    )
 }
 
 // What a step count gives to the scale: n × n × n.

@@ -13,7 +13,6 @@ use Rattle.scan.specs.Answer.{verdictOf}
 use Rattle.scan.proofs.Orders.{stepVerdict, order-parts, long-refused, short-accepted, passed}
 use Rattle.curve.specs.Curve.{curveOf}
 use Rattle.curve.specs.Machine.{InLimits}
-use Rattle.curve.proofs.Along.{Twelve}
 use Rattle.curve.proofs.verdict.Statement.{statement}
 use Rattle.curve.proofs.verdict.Tie as tie
 use Rattle.curve.proofs.verdict.Reads as reads
@@ -43,14 +42,14 @@ module _ (c : tie.After-before-steps) where
   limits : verdictOf (c .before-steps .result) ≡ accepted → InLimits (s .args .curve)
   limits e =
       let curve = s .args .curve in
-      let twelve : Twelve curve = search needs in
       let p = passed (s .args .side) (curve .points) (s .args .grid-wrong) (s .args .mark-wrong)
       (c .before .before .is-count-out .result) (s .args .list-short) (sym (c .before-steps .ensures) ∙ e) in
       let n = count-in 512 (curve .steps) .0 (false-iff _ .0 (sym (c .before .before .is-count-out .ensures) ∙ p .count-in)) in
       record {
         count-least = n .0;
         count-most = n .1;
-        coordinates = λ k h. omega (arith, p .coordinate-below k (rw twelve h), p .side-most);
+        twelve = search needs;
+        coordinates = λ b h. omega (arith, p .coordinate-below b h, p .side-most);
       }
 
 is-count-out-requires : tie.Need-is-count-out-requires

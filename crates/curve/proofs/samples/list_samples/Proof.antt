@@ -3,6 +3,7 @@ use borrow.Author.Needs.{needs}
 use mathlib.Core.Path.{_≡_, sym, _∙_, ap}
 use Prim.Native.Nat.{ℕ, suc, _*_, _≤_}
 use native.Mathlib.Omega.{arith}
+use lib.ListN.{length}
 use Rattle.drawing.specs.Refusals.{Drawable, sampleCount}
 use Rattle.drawing.proofs.Accepted.{list-accepted}
 use denote.Ref.{now}
@@ -11,7 +12,7 @@ use Rattle.scan.proofs.Samples.{row-on-list}
 use Rattle.curve.specs.declared.Curve.{Curve}
 use Rattle.curve.specs.Curve.{curveOf}
 use Rattle.curve.specs.Machine.{InLimits}
-use Rattle.curve.proofs.Along.{Twelve, drawable-in-limits, scale-held}
+use Rattle.curve.proofs.Along.{drawable-in-limits, scale-held}
 use Rattle.curve.proofs.Begin.{start-at, list-small, list-row, listed-row}
 use Rattle.curve.proofs.samples.list_samples.Statement.{statement}
 use Rattle.curve.proofs.samples.list_samples.Tie as tie
@@ -24,7 +25,7 @@ unfolding sampleCount
 room c h = omega arith
 
 module _ (c : tie.Start) where
-  twelve : Twelve (c .args .curve)
+  twelve : length (c .args .curve .points) ≡ 12
   twelve = search needs
 
   drawable : Drawable (c .args .side) (curveOf (c .args .curve))

@@ -2,6 +2,7 @@
 use borrow.Author.Needs.{needs}
 use mathlib.Core.Path.{_≡_, sym, _∙_, ap}
 use native.Mathlib.Omega.{arith}
+use lib.ListN.{length}
 use Rattle.drawing.specs.Refusals.{Drawable}
 use Rattle.drawing.proofs.Accepted.{draw-accepted}
 use denote.Ref.{now}
@@ -9,7 +10,7 @@ use Rattle.scan.specs.Walker.{gridStrides}
 use Rattle.scan.proofs.Samples.{row-on-grid}
 use Rattle.curve.specs.Curve.{curveOf}
 use Rattle.curve.specs.Machine.{InLimits}
-use Rattle.curve.proofs.Along.{Twelve, drawable-in-limits, scale-held}
+use Rattle.curve.proofs.Along.{drawable-in-limits, scale-held}
 use Rattle.curve.proofs.Begin.{start-at, grid-small, grid-row, drawn-row}
 use Rattle.curve.proofs.samples.mark_samples.Statement.{statement}
 use Rattle.curve.proofs.samples.mark_samples.Tie as tie
@@ -17,7 +18,7 @@ use Rattle.curve.proofs.samples.mark_samples.Reads as reads
 use Rattle.curve.proofs.samples.mark_samples.Lts as lts
 
 module _ (c : tie.Start) where
-  twelve : Twelve (c .args .curve)
+  twelve : length (c .args .curve .points) ≡ 12
   twelve = search needs
 
   drawable : Drawable (c .args .side) (curveOf (c .args .curve))

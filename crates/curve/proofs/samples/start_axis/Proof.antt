@@ -25,7 +25,7 @@ point : (c : tie.After-coordinate) →
     read (c .coordinate .result) ≡ pos (getD (c .before .before .args .curve .points) (c .before .before .args .a) 0)
 point c =
     let s = c .before .before in
-    answer-read (c .coordinate .ensures) (omega (arith, s .pre .0 .coordinates (s .args .a) (omega arith)))
+    answer-read (c .coordinate .ensures) (omega (arith, s .pre .0 .coordinates (s .args .a) (rw (s .pre .0 .twelve) (omega arith))))
 
 start-requires : tie.Need-start-requires
 start-requires c κs =
@@ -33,7 +33,7 @@ start-requires c κs =
     rw (held (s .pre .1 .1) (lit< tt) .same, point (c .before))
     (record {
       stride = s .pre .1 .1;
-      point = within-pos (omega (arith, s .pre .0 .coordinates (s .args .a) (omega arith)));
+      point = within-pos (omega (arith, s .pre .0 .coordinates (s .args .a) (rw (s .pre .0 .twelve) (omega arith))));
     })
 
 returns : tie.Need-returns
