@@ -63,17 +63,3 @@ unfolding exact coordinate offset
 along-doubles c x-axis = curve-doubles (c .steps) (coordinate (c .points) x-axis)
 along-doubles c y-axis = curve-doubles (c .steps) (coordinate (c .points) y-axis)
 along-doubles c z-axis = curve-doubles (c .steps) (coordinate (c .points) z-axis)
-
--- Axes by their numbers.
-pub offset-small : (a : Axis) → offset a < 3
-unfolding offset
-offset-small x-axis = lit< tt
-offset-small y-axis = lit< tt
-offset-small z-axis = lit< tt
-
-pub axis-numbered : (k : ℕ) → k < 3 → (a : Axis) × (offset a ≡ k)
-unfolding offset
-axis-numbered zero h = (x-axis, refl)
-axis-numbered (suc zero) h = (y-axis, refl)
-axis-numbered (suc (suc zero)) h = (z-axis, refl)
-axis-numbered (suc (suc (suc k))) h = absurd (omega arith)

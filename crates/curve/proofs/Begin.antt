@@ -23,11 +23,12 @@ use Rattle.cubic.specs.Tracks.{Tracks}
 use Rattle.cubic.proofs.Tracks.{start-tracks}
 use Rattle.scan.specs.declared.walker.Strides.{Strides}
 use Rattle.scan.specs.Walker.{axisOf, strideOf, gridStrides, listStrides, placeOf, cellOfWalker, walkers}
-use Rattle.scan.proofs.Samples.{Row, At, gridStride, grid-stride-is, grid-stride-small, list-stride-is, row-places, row-cells}
+use Rattle.scan.proofs.Axes.{offset-small}
+use Rattle.scan.proofs.Samples.{Walk, At, along, row-moves, gridStride, grid-stride-is, grid-stride-small, list-stride-is, row-places, row-cells}
 use Rattle.curve.specs.declared.Curve.{Curve}
 use Rattle.curve.specs.Curve.{curveOf}
 use Rattle.curve.specs.Machine.{InLimits, SmallStrides, doubledAlong, startWalker}
-use Rattle.curve.proofs.Along.{drawable-in-limits, scale-small, along-room, along-doubles, offset-small}
+use Rattle.curve.proofs.Along.{drawable-in-limits, scale-small, along-room, along-doubles}
 
 -- A curve's samples are one row.
 curve-samples : (n : ℕ) → samples (n ∷ []) ≡ row n []
@@ -56,7 +57,7 @@ module _ (c : Curve) (h : Strides) where
   start-on z-axis = refl
 
   -- The walker starts at sample 0.
-  pub start-at : At (curveOf c) h [] (λ a. doubledAlong c (offset a)) 0 (startWalker c h)
+  pub start-at : At (curveOf c) h (along []) (λ a. doubledAlong c (offset a)) 0 (startWalker c h)
   unfolding cellOf cell walk exact
   start-at = record {
     on = λ a.
@@ -71,7 +72,7 @@ module _ {S : ℕ} (c : Curve) (twelve : length (c .points) ≡ 12) (d : Drawabl
 
   -- A curve is one row, in a grid and in a listing.
   pub curve-row : (h : Strides) (stride : Axis → ℕ) → ((a : Axis) → strideOf h a ≡ pos (stride a)) →
-      ((a : Axis) → stride a ≤ 4096) → Row S (curveOf c) h (c .steps) [] (λ a. doubledAlong c (offset a))
+      ((a : Axis) → stride a ≤ 4096) → Walk S (curveOf c) h (c .steps) (along []) (λ a. doubledAlong c (offset a))
   curve-row h stride is small = record {
     drawable = d;
     scale-small = scale-small limits;
@@ -79,14 +80,15 @@ module _ {S : ℕ} (c : Curve) (twelve : length (c .points) ≡ 12) (d : Drawabl
     stride-is = is;
     stride-small = small;
     sample = λ i l. index l no-index;
+    moves = row-moves (curveOf c) [];
     doubles = along-doubles c;
     room = λ a. along-room limits (offset a) (offset-small a);
   }
 
-  pub grid-row : Row S (curveOf c) (gridStrides S) (c .steps) [] (λ a. doubledAlong c (offset a))
+  pub grid-row : Walk S (curveOf c) (gridStrides S) (c .steps) (along []) (λ a. doubledAlong c (offset a))
   grid-row = curve-row (gridStrides S) (gridStride S) (grid-stride-is S) (grid-stride-small (d .side-most))
 
-  pub list-row : Row S (curveOf c) listStrides (c .steps) [] (λ a. doubledAlong c (offset a))
+  pub list-row : Walk S (curveOf c) listStrides (c .steps) (along []) (λ a. doubledAlong c (offset a))
   list-row = curve-row listStrides (λ a. 1) list-stride-is (λ a. lit≤ tt)
 
   -- What an accepted drawing leaves are the marks of the row.

@@ -18,7 +18,8 @@ use Rattle.cubic.proofs.LongStep.{long-far}
 use Rattle.curve.specs.declared.Curve.{Curve}
 use Rattle.curve.specs.Curve.{curveOf}
 use Rattle.curve.specs.Machine.{doubledAlong}
-use Rattle.curve.proofs.Along.{along-doubles, axis-numbered, offset-small}
+use Rattle.scan.proofs.Axes.{axis-numbered, offset-small}
+use Rattle.curve.proofs.Along.{along-doubles}
 
 -- The step from sample i on axis number a is too long, by its difference.
 abbrev pub longAt : Curve → (a i : ℕ) → Bool

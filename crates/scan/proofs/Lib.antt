@@ -1,5 +1,7 @@
--- `Column`: the cubic through four coordinates. `Natural`: natural numbers as the machine holds them. `Orders`: the order of refusals in two parts. `Row`: a row of
--- walkers, step by step. `Samples`: walkers follow the samples of a row.
+-- `Axes`: axes by their numbers. `Column`: the cubic through four coordinates. `Natural`: natural numbers as the machine
+-- holds them. `Orders`: the order of refusals in two parts. `Row`: a row of walkers, step by step. `Samples`: walkers
+-- follow samples.
+pub mod Axes
 pub mod Column
 pub mod Natural
 pub mod Orders

@@ -1,5 +1,5 @@
--- Walkers follow samples. A walker that stands at sample 0 of a row stands at sample i after i steps: its positions are
--- those of the sample's cell, and there is room for each step.
+-- Walkers follow samples. A walker that stands at the first sample of a walk stands at sample i after i steps: its
+-- positions are those of the sample's cell, and there is room for each step.
 use mathlib.Core.Path.{_≡_, refl, sym, _∙_, ap, ap₂, fun-ext}
 use mathlib.Core.List.{List, [], _∷_, _++_, map, map-append}
 use Prim.Native.Nat.{ℕ, zero, suc, _+_, _*_, _≤_, _<_, _^_, zero-le}
@@ -8,7 +8,7 @@ use native.Mathlib.Omega.{arith}
 use lib.Dec.{lit≤}
 use lib.IntN.{ℤ, pos, natAbs, _*ℤ_}
 use Rattle.bezier.specs.Exact.{Sample}
-use Rattle.walk.specs.Walk.{cell, walk}
+use Rattle.walk.specs.Walk.{move, cell, walk}
 use Rattle.cube.specs.Cube.{Axis, x-axis, y-axis, z-axis, volume, place}
 use Rattle.cube.proofs.Places.{place-below}
 use Rattle.drawing.specs.Object.{Object, scaleOf, exact, cellOf}
@@ -18,7 +18,7 @@ use Rattle.drawing.proofs.Cells.{cell-within, cell-inside}
 use Rattle.cubic.specs.Differences.{differencesAt}
 use Rattle.cubic.specs.Room.{Room}
 use Rattle.cubic.specs.Tracks.{Doubles, Tracks}
-use Rattle.cubic.proofs.Tracks.{step-walks, remainder-half}
+use Rattle.cubic.proofs.Tracks.{step-tracks, remainder-half}
 use Rattle.cubic.proofs.Levels.{tracks-steps}
 use Rattle.scan.specs.declared.walker.Walker.{Walker}
 use Rattle.scan.specs.declared.walker.Strides.{Strides}
@@ -26,21 +26,33 @@ use Rattle.scan.specs.Walker.{axisOf, strideOf, gridStrides, listStrides
 use Rattle.scan.specs.Walker.{IsByte, ByteCell, cellOfWalker, walkers, OnGrid, OnList}
 use Rattle.scan.proofs.Natural.{square-at-most}
 
--- A row of a drawable object, of n steps with the later indices is: sequences that double its exact values, with room
--- at every sample, and strides up to 4096.
-pub record Row (S : ℕ) (o : Object) (h : Strides) (n : ℕ) (is : List ℕ) (P : Axis → ℕ → ℤ) : Type 0 where
+-- A walk of n steps through the samples σ 0 to σ n of a drawable object, each cell one move from the last: a curve, a row
+-- of a patch, or the walk along u. P doubles the exact values and has room at every sample, and strides are up to 4096.
+pub record Walk (S : ℕ) (o : Object) (h : Strides) (n : ℕ) (σ : ℕ → List ℕ) (P : Axis → ℕ → ℤ) : Type 0 where
   pub drawable : Drawable S o
   pub scale-small : scaleOf o ≤ 2 ^ 60
   pub stride : Axis → ℕ
   pub stride-is : (a : Axis) → strideOf h a ≡ pos (stride a)
   pub stride-small : (a : Axis) → stride a ≤ 4096
-  pub sample : (i : ℕ) → i ≤ n → Sample (o .counts) (i ∷ is)
-  pub doubles : (a : Axis) → Doubles n (λ i. exact o a (i ∷ is)) (P a)
+  pub sample : (i : ℕ) → i ≤ n → Sample (o .counts) (σ i)
+  pub moves : (a : Axis) (i : ℕ) →
+      cellOf o (σ (suc i)) a ≡ move (scaleOf o) (cellOf o (σ i) a) (exact o a (σ (suc i)))
+  pub doubles : (a : Axis) → Doubles n (λ i. exact o a (σ i)) (P a)
   pub room : (a : Axis) (i : ℕ) → i ≤ n → Room (differencesAt (P a) i)
 
--- The walker stands at sample i of the row.
-pub record At (o : Object) (h : Strides) (is : List ℕ) (P : Axis → ℕ → ℤ) (i : ℕ) (w : Walker) : Type 0 where
-  pub on : (a : Axis) → Tracks (scaleOf o) (strideOf h a) (P a) i (cellOf o (i ∷ is) a) (axisOf w a)
+-- The walker stands at sample σ i.
+pub record At (o : Object) (h : Strides) (σ : ℕ → List ℕ) (P : Axis → ℕ → ℤ) (i : ℕ) (w : Walker) : Type 0 where
+  pub on : (a : Axis) → Tracks (scaleOf o) (strideOf h a) (P a) i (cellOf o (σ i) a) (axisOf w a)
+
+-- The samples of a row: the first index runs, the later ones are fixed.
+abbrev pub along : List ℕ → ℕ → List ℕ
+along is i = i ∷ is
+
+-- Along a row each cell is one move from the last.
+pub row-moves : (o : Object) (is : List ℕ) (a : Axis) (i : ℕ) →
+    cellOf o (suc i ∷ is) a ≡ move (scaleOf o) (cellOf o (i ∷ is) a) (exact o a (suc i ∷ is))
+unfolding cellOf cell walk
+row-moves o is a i = refl
 
 -- A grid's strides.
 pub gridStride : ℕ → Axis → ℕ
@@ -73,47 +85,45 @@ step-on scale h w x-axis = refl
 step-on scale h w y-axis = refl
 step-on scale h w z-axis = refl
 
-module _ {S : ℕ} {o : Object} {h : Strides} {n : ℕ} {is : List ℕ} {P : Axis → ℕ → ℤ} (r : Row S o h n is P) where
+module _ {S : ℕ} {o : Object} {h : Strides} {n : ℕ} {σ : ℕ → List ℕ} {P : Axis → ℕ → ℤ} (r : Walk S o h n σ P) where
   abbrev N : ℤ
   N = pos (scaleOf o)
 
   -- A step leads to the next sample.
-  at-next : {i : ℕ} {w : Walker} → i < n → At o h is P i w → At o h is P (suc i) (stepAll N h w)
-  unfolding cellOf cell
+  pub at-next : {i : ℕ} {w : Walker} → i < n → At o h σ P i w → At o h σ P (suc i) (stepAll N h w)
   at-next {i} {w} l t = record {
-    on = λ a.
-        rw (step-on N h w a) (step-walks (r .doubles a) l (cell (scaleOf o) _ (λ js. exact o a (zero ∷ js)) is) (t .on a));
+    on = λ a. rw (step-on N h w a, r .moves a i) (step-tracks (r .doubles a) l (t .on a));
   }
 
   -- After i steps the walker stands at sample i.
-  pub at-after : {w : Walker} → At o h is P 0 w → (i : ℕ) → i ≤ n → At o h is P i (after N h w i)
+  pub at-after : {w : Walker} → At o h σ P 0 w → (i : ℕ) → i ≤ n → At o h σ P i (after N h w i)
   unfolding after
   at-after t zero l = t
   at-after t (suc i) l = at-next l (at-after t i (omega arith))
 
-  module _ {i : ℕ} {w : Walker} (l : i ≤ n) (t : At o h is P i w) where
+  module _ {i : ℕ} {w : Walker} (l : i ≤ n) (t : At o h σ P i w) where
     -- The coordinates are below 64.
-    below : (a : Axis) → cellOf o (i ∷ is) a ≤ 63
+    below : (a : Axis) → cellOf o (σ i) a ≤ 63
     below a = omega (arith, cell-inside (r .drawable) (r .sample i l) a, r .drawable .side-most)
 
     -- There is room for a step.
-    at-steps : StepsAll N h w
+    pub at-steps : StepsAll N h w
     at-steps = record {
       on = λ a.
           rw (r .stride-is a)
           (tracks-steps (P a) i (rw (r .stride-is a) at (t .on a)) (r .room a i l)
-          (remainder-half (t .on a) (exact o a (i ∷ is)) (r .doubles a .agrees i l) .1
+          (remainder-half (t .on a) (exact o a (σ i)) (r .doubles a .agrees i l) .1
           (cell-within (r .drawable) (r .sample i l) a))
           (r .scale-small) (r .stride-small a) (below a));
     }
 
     -- Each position is the coordinate times the stride.
-    position : (a : Axis) → axisOf w a .at ≡ pos (r .stride a * cellOf o (i ∷ is) a)
-    position a = t .on a .place ∙ ap (λ z. z *ℤ pos (cellOf o (i ∷ is) a)) (r .stride-is a)
+    position : (a : Axis) → axisOf w a .at ≡ pos (r .stride a * cellOf o (σ i) a)
+    position a = t .on a .place ∙ ap (λ z. z *ℤ pos (cellOf o (σ i) a)) (r .stride-is a)
 
     at-place : HasPlace w
     at-place = record {
-      position = λ a. r .stride a * cellOf o (i ∷ is) a;
+      position = λ a. r .stride a * cellOf o (σ i) a;
       is = position;
       small = λ a. omega (arith, mul-le-mul (r .stride-small a) (below a));
     }
@@ -130,7 +140,7 @@ row-map F G scale h w is (suc n) e =
 
 module _ {S : ℕ} {o : Object} {n : ℕ} {is : List ℕ} {P : Axis → ℕ → ℤ} {w : Walker} where
   -- In a grid the walker's place is that of the sample's cell.
-  module _ (r : Row S o (gridStrides S) n is P) (t : At o (gridStrides S) is P 0 w) where
+  module _ (r : Walk S o (gridStrides S) n (along is) P) (t : At o (gridStrides S) (along is) P 0 w) where
     pub grid-place : (i : ℕ) → i ≤ n → placeOf (after (N r) (gridStrides S) w i) ≡ place S (cellOf o (i ∷ is))
     unfolding placeOf place
     grid-place i l =
@@ -148,7 +158,7 @@ module _ {S : ℕ} {o : Object} {n : ℕ} {is : List ℕ} {P : Axis → ℕ → 
     row-places = row-map placeOf (λ s. place S (cellOf o s)) (N r) (gridStrides S) w is n grid-place
 
   -- In a listing the walker's cell is the sample's.
-  module _ (r : Row S o listStrides n is P) (t : At o listStrides is P 0 w) where
+  module _ (r : Walk S o listStrides n (along is) P) (t : At o listStrides (along is) P 0 w) where
     list-position : (i : ℕ) → i ≤ n → (a : Axis) → axisOf (after (N r) listStrides w i) a .at ≡ pos (cellOf o (i ∷ is) a)
     list-position i l a =
         at-after r t i l .on a .place ∙ ap (λ z. z *ℤ pos (cellOf o (i ∷ is) a)) (list-stride-is a) ∙ ap pos (omega arith)
