@@ -1,13 +1,11 @@
 -- The walker at sample 0, and the row that it walks.
 use mathlib.Core.Path.{_≡_, refl, sym, _∙_, ap}
-use mathlib.Core.List.{List, [], _∷_, _++_, append-nil, map, map-map}
+use mathlib.Core.List.{List, [], _∷_, _++_, map, map-map}
 use Prim.Native.Nat.{ℕ, suc, _*_, _≤_}
-use native.Mathlib.Nat.{le-trans}
 use native.Mathlib.Omega.{arith}
 use lib.Dec.{lit≤}
 use lib.IntN.{pos}
 use lib.ListN.{length, getD, drop}
-use Rattle.integers.proofs.Magnitude.{within-pos}
 use Rattle.decide.specs.Refusal.{accepted}
 use Rattle.bezier.specs.Exact.{Sample, no-index, index, no-corner, first}
 use Rattle.bezier.proofs.Ends.{corner-value}
@@ -15,7 +13,8 @@ use Rattle.walk.specs.Walk.{walk, cell}
 use Rattle.cube.specs.Cube.{Axis, x-axis, y-axis, z-axis}
 use Rattle.drawing.specs.Object.{offset, coordinate, scaleOf, exact, cellOf}
 use Rattle.drawing.specs.Refusals.{Drawable, drawVerdict, listVerdict, sampleCount}
-use Rattle.drawing.specs.Drawing.{row, rows, samples, marked, bytes, cells, drawn, listed}
+use Rattle.drawing.specs.Drawing.{row, samples, marked, bytes, cells, drawn, listed}
+use Rattle.drawing.proofs.Samples.{one-row}
 use Rattle.drawing.proofs.Listed.{listed-accepted}
 use Rattle.cubic.specs.Differences.{differencesAt}
 use Rattle.cubic.specs.Axis.{startOf}
@@ -27,24 +26,8 @@ use Rattle.scan.proofs.Axes.{offset-small}
 use Rattle.scan.proofs.Samples.{Walk, At, along, row-moves, gridStride, grid-stride-is, grid-stride-small, list-stride-is, row-places, row-cells}
 use Rattle.curve.specs.declared.Curve.{Curve}
 use Rattle.curve.specs.Curve.{curveOf}
-use Rattle.curve.specs.Machine.{InLimits, SmallStrides, doubledAlong, startWalker}
+use Rattle.curve.specs.Machine.{InLimits, doubledAlong, startWalker}
 use Rattle.curve.proofs.Along.{drawable-in-limits, scale-small, along-room, along-doubles}
-
--- A curve's samples are one row.
-curve-samples : (n : ℕ) → samples (n ∷ []) ≡ row n []
-unfolding samples rows
-curve-samples n = append-nil (row n [])
-
--- The strides of a grid and of a listing are small.
-small-of : {h : Strides} {stride : Axis → ℕ} → ((a : Axis) → strideOf h a ≡ pos (stride a)) →
-    ((a : Axis) → stride a ≤ 4096) → SmallStrides h
-small-of is small = record { on = λ a. rw (is a) (within-pos (le-trans (small a) (lit≤ tt))) }
-
-pub grid-small : {S : ℕ} → S ≤ 64 → SmallStrides (gridStrides S)
-grid-small {S} h = small-of (grid-stride-is S) (grid-stride-small h)
-
-pub list-small : SmallStrides listStrides
-list-small = small-of {stride = λ a. 1} list-stride-is (λ a. lit≤ tt)
 
 module _ (c : Curve) (h : Strides) where
   -- Sample 0 on each axis.
@@ -98,7 +81,7 @@ module _ {S : ℕ} (c : Curve) (twelve : length (c .points) ≡ 12) (d : Drawabl
       (map placeOf (walkers (c .steps) (pos (scaleOf (curveOf c))) (gridStrides S) (startWalker c (gridStrides S)))) grid
   unfolding drawn cells
   drawn-row grid e =
-      rw (e, curve-samples (c .steps), map-map)
+      rw (e, one-row (c .steps), map-map)
       (ap (λ ps. marked (c .mark) ps grid) (sym (row-places grid-row (start-at c (gridStrides S)))))
 
   -- What an accepted listing leaves are the cells of the row.
@@ -110,4 +93,4 @@ module _ {S : ℕ} (c : Curve) (twelve : length (c .points) ≡ 12) (d : Drawabl
   listed-row list e =
       let one : suc (c .steps) * 1 ≡ suc (c .steps) = omega arith in
       listed-accepted S (curveOf c) list e ∙
-      rw (curve-samples (c .steps), row-cells list-row (start-at c listStrides), one)
+      rw (one-row (c .steps), row-cells list-row (start-at c listStrides), one)

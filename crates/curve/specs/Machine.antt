@@ -1,16 +1,13 @@
 -- What the machine starts from, and within which limits.
 use mathlib.Core.Path.{_≡_}
-use Prim.Native.Nat.{ℕ, _≤_, _^_}
+use Prim.Native.Nat.{ℕ, _≤_}
 use lib.IntN.{ℤ, pos}
 use lib.ListN.{length, getD}
-use Rattle.integers.specs.Magnitude.{Within}
-use Rattle.cube.specs.Cube.{Axis}
 use Rattle.cubic.specs.Differences.{differencesAt}
 use Rattle.cubic.specs.Axis.{startOf}
 use Rattle.scan.specs.Column.{Below64, doubledColumn}
 use Rattle.scan.specs.declared.walker.Strides.{Strides}
 use Rattle.scan.specs.declared.walker.Walker.{Walker}
-use Rattle.scan.specs.Walker.{strideOf}
 use Rattle.curve.specs.declared.Curve.{Curve}
 
 -- What must hold before the step test can be asked: neither 13 nor 14 applies, at a side up to 64.
@@ -23,13 +20,6 @@ pub record InLimits (c : Curve) : Type 0 where
 -- Twice the exact values along one axis, by its number: through coordinate a of each point, three bytes apart.
 abbrev pub doubledAlong : Curve → (a : ℕ) → ℕ → ℤ
 doubledAlong c a = doubledColumn (c .points) (c .steps) 3 a
-
--- Room for a coordinate times the stride.
-abbrev pub SmallStride : ℤ → Type 0
-SmallStride h = Within (2 ^ 31) h
-
-pub record SmallStrides (h : Strides) : Type 0 where
-  pub on : (a : Axis) → SmallStride (strideOf h a)
 
 -- Sample 0 on three axes.
 abbrev pub startWalker : Curve → Strides → Walker

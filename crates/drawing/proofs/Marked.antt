@@ -1,7 +1,7 @@
 -- What a grid holds after marks: the mark at each marked place, and elsewhere what it held.
 use mathlib.Core.Path.{_≡_, refl, _∙_, ap}
 use mathlib.Core.Logic.{_⊎_, inl, inr, ⊎-elim}
-use mathlib.Core.List.{List, [], _∷_, List·Memᴰ, List·Memᴰ·head, List·Memᴰ·tail}
+use mathlib.Core.List.{List, [], _∷_, _++_, List·Memᴰ, List·Memᴰ·head, List·Memᴰ·tail}
 use Prim.Native.Nat.{ℕ, _<_}
 use lib.Dec.{eqb, eqb→eq}
 use lib.ListN.{length, getD, set, length-set}
@@ -15,6 +15,12 @@ module _ (m : ℕ) where
   unfolding marked
   length-marked [] grid = refl
   length-marked (p ∷ ps) grid = length-marked ps (set grid p m) ∙ length-set grid p m
+
+  -- Marks at some places and then at others.
+  pub marked-append : (ps qs grid : List ℕ) → marked m (ps ++ qs) grid ≡ marked m qs (marked m ps grid)
+  unfolding marked
+  marked-append [] qs grid = refl
+  marked-append (p ∷ ps) qs grid = marked-append ps qs (set grid p m)
 
   -- A place holds what it held, or it is a marked one and holds the mark.
   pub marked-holds : (ps grid : List ℕ) (q : ℕ) → q < length grid →

@@ -1,7 +1,8 @@
 -- A drawing goes through every sample and nothing else: the list of samples holds exactly the samples, n + 1 or (n +
 -- 1) × (m + 1) of them.
-use mathlib.Core.Path.{_≡_, refl, ap}
+use mathlib.Core.Path.{_≡_, refl, sym, _∙_, ap}
 use mathlib.Core.Logic.{⊎-elim}
+use mathlib.Core.List.{_++_, append-nil, append-assoc}
 use mathlib.Core.List.{List, [], _∷_, List·Memᴰ, List·Memᴰ·head, List·Memᴰ·tail, List·Memᴰ·append-cases}
 use mathlib.Core.List.{List·Memᴰ·eq-of-singleton, Memᴰ·append-left, Memᴰ·append-right}
 use mathlib.Core.List.{Memᴰ·cast}
@@ -44,6 +45,17 @@ of-rows n (is ∷ later) js m =
     ⊎-elim (λ l. let w = of-row n is js l in (w .0, is, w .1, List·Memᴰ·head refl, w .2))
     (λ l. let w = of-rows n later js l in (w .0, w .1, w .2, List·Memᴰ·tail (w .3), w .4))
     (List·Memᴰ·append-cases (row n is) m)
+
+-- Rows in turn are rows of the first later samples and then of the others.
+pub rows-append : (n : ℕ) (a b : List (List ℕ)) → rows n (a ++ b) ≡ rows n a ++ rows n b
+unfolding rows
+rows-append n [] b = refl
+rows-append n (is ∷ a) b = ap (λ l. row n is ++ l) (rows-append n a b) ∙ sym (append-assoc (row n is) (rows n a) (rows n b))
+
+-- One later parameter is one row.
+pub one-row : (n : ℕ) → samples (n ∷ []) ≡ row n []
+unfolding samples rows
+one-row n = append-nil (row n [])
 
 -- Every sample is gone through.
 pub sample-listed : {ns is : List ℕ} → Sample ns is → List·Memᴰ is (samples ns)

@@ -7,6 +7,7 @@ use lib.IntN.{ℤ, pos}
 use mir.Syntax.{w64}
 use mir.Val.{toZ}
 use Rattle.integers.proofs.Magnitude.{within-pos}
+use Rattle.scan.specs.Walker.{SmallStride}
 use Rattle.cubic.proofs.Fits.{Holds, read, held}
 
 -- The bits of a number below 2^32 read back as the number.
@@ -27,3 +28,11 @@ cube-at-most h = mul-le-mul (square-at-most h) h
 -- What is read back of an answer that is a number below 2^32.
 pub answer-read : {k : ℕ} {r : ℤ} → r ≡ pos k → k < 2 ^ 32 → read r ≡ pos k
 answer-read e h = natural-held e (le-of-lt h) (lit< tt) .same
+
+-- What is read back of a stride.
+module _ {h : ℤ} (p : SmallStride h) where
+  pub stride-read : read h ≡ h
+  stride-read = held p (lit< tt) .same
+
+  pub small-read : SmallStride (read h)
+  small-read = rw stride-read p

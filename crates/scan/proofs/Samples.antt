@@ -7,6 +7,7 @@ use native.Mathlib.Nat.{le-trans, mul-le-mul}
 use native.Mathlib.Omega.{arith}
 use lib.Dec.{lit≤}
 use lib.IntN.{ℤ, pos, natAbs, _*ℤ_}
+use Rattle.integers.proofs.Magnitude.{within-pos}
 use Rattle.bezier.specs.Exact.{Sample}
 use Rattle.walk.specs.Walk.{move, cell, walk}
 use Rattle.cube.specs.Cube.{Axis, x-axis, y-axis, z-axis, volume, place}
@@ -22,7 +23,7 @@ use Rattle.cubic.proofs.Tracks.{step-tracks, remainder-half}
 use Rattle.cubic.proofs.Levels.{tracks-steps}
 use Rattle.scan.specs.declared.walker.Walker.{Walker}
 use Rattle.scan.specs.declared.walker.Strides.{Strides}
-use Rattle.scan.specs.Walker.{axisOf, strideOf, gridStrides, listStrides, StepsAll, stepAll, after, HasPlace, placeOf}
+use Rattle.scan.specs.Walker.{axisOf, strideOf, gridStrides, listStrides, SmallStrides, StepsAll, stepAll, after, HasPlace, placeOf}
 use Rattle.scan.specs.Walker.{IsByte, ByteCell, cellOfWalker, walkers, OnGrid, OnList}
 use Rattle.scan.proofs.Natural.{square-at-most}
 
@@ -77,6 +78,17 @@ pub list-stride-is : (a : Axis) → strideOf listStrides a ≡ pos 1
 list-stride-is x-axis = refl
 list-stride-is y-axis = refl
 list-stride-is z-axis = refl
+
+-- Both are small.
+small-of : {h : Strides} {stride : Axis → ℕ} → ((a : Axis) → strideOf h a ≡ pos (stride a)) →
+    ((a : Axis) → stride a ≤ 4096) → SmallStrides h
+small-of is small = record { on = λ a. rw (is a) (within-pos (le-trans (small a) (lit≤ tt))) }
+
+pub grid-small : {S : ℕ} → S ≤ 64 → SmallStrides (gridStrides S)
+grid-small {S} h = small-of (grid-stride-is S) (grid-stride-small h)
+
+pub list-small : SmallStrides listStrides
+list-small = small-of {stride = λ a. 1} list-stride-is (λ a. lit≤ tt)
 
 -- A step on every axis is a step on each.
 step-on : (scale : ℤ) (h : Strides) (w : Walker) (a : Axis) →

@@ -3,6 +3,7 @@ use mathlib.Core.Path.{_≡_}
 use mathlib.Core.List.{List, [], _∷_, _++_}
 use Prim.Native.Nat.{ℕ, zero, suc, _+_, _*_, _≤_, _<_, _^_}
 use lib.IntN.{ℤ, pos, natAbs, _+ℤ_}
+use Rattle.integers.specs.Magnitude.{Within}
 use Rattle.cube.specs.Cube.{Axis, x-axis, y-axis, z-axis, Cell}
 use Rattle.cubic.specs.declared.axis.Axis as machine
 use Rattle.cubic.specs.Axis.{stepOf}
@@ -27,6 +28,13 @@ gridStrides S = record { x = pos 1; y = pos S; z = pos (S * S) }
 -- A listing's strides are 1.
 abbrev pub listStrides : Strides
 listStrides = record { x = pos 1; y = pos 1; z = pos 1 }
+
+-- Room for a coordinate times the stride.
+abbrev pub SmallStride : ℤ → Type 0
+SmallStride h = Within (2 ^ 31) h
+
+pub record SmallStrides (h : Strides) : Type 0 where
+  pub on : (a : Axis) → SmallStride (strideOf h a)
 
 -- There is room for a step on every axis.
 pub record StepsAll (scale : ℤ) (h : Strides) (w : Walker) : Type 0 where

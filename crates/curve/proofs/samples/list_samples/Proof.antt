@@ -8,12 +8,12 @@ use Rattle.drawing.specs.Refusals.{Drawable, sampleCount}
 use Rattle.drawing.proofs.Accepted.{list-accepted}
 use denote.Ref.{now}
 use Rattle.scan.specs.Walker.{listStrides}
-use Rattle.scan.proofs.Samples.{row-on-list}
+use Rattle.scan.proofs.Samples.{list-small, row-on-list}
 use Rattle.curve.specs.declared.Curve.{Curve}
 use Rattle.curve.specs.Curve.{curveOf}
 use Rattle.curve.specs.Machine.{InLimits}
 use Rattle.curve.proofs.Along.{drawable-in-limits, scale-held}
-use Rattle.curve.proofs.Begin.{start-at, list-small, list-row, listed-row}
+use Rattle.curve.proofs.Begin.{start-at, list-row, listed-row}
 use Rattle.curve.proofs.samples.list_samples.Statement.{statement}
 use Rattle.curve.proofs.samples.list_samples.Tie as tie
 use Rattle.curve.proofs.samples.list_samples.Reads as reads

@@ -7,11 +7,11 @@ use Rattle.drawing.specs.Refusals.{Drawable}
 use Rattle.drawing.proofs.Accepted.{draw-accepted}
 use denote.Ref.{now}
 use Rattle.scan.specs.Walker.{gridStrides}
-use Rattle.scan.proofs.Samples.{row-on-grid}
+use Rattle.scan.proofs.Samples.{grid-small, row-on-grid}
 use Rattle.curve.specs.Curve.{curveOf}
 use Rattle.curve.specs.Machine.{InLimits}
 use Rattle.curve.proofs.Along.{drawable-in-limits, scale-held}
-use Rattle.curve.proofs.Begin.{start-at, grid-small, grid-row, drawn-row}
+use Rattle.curve.proofs.Begin.{start-at, grid-row, drawn-row}
 use Rattle.curve.proofs.samples.mark_samples.Statement.{statement}
 use Rattle.curve.proofs.samples.mark_samples.Tie as tie
 use Rattle.curve.proofs.samples.mark_samples.Reads as reads

@@ -2,12 +2,11 @@
 use borrow.Author.Needs.{needs}
 use mathlib.Core.Path.{_≡_}
 use native.Mathlib.Omega.{arith}
-use lib.Dec.{lit<}
 use lib.IntN.{pos}
 use lib.ListN.{getD}
 use Rattle.integers.proofs.Magnitude.{within-pos}
-use Rattle.cubic.proofs.Fits.{read, held}
-use Rattle.scan.proofs.Natural.{answer-read}
+use Rattle.cubic.proofs.Fits.{read}
+use Rattle.scan.proofs.Natural.{answer-read, stride-read}
 use Rattle.curve.proofs.samples.start_axis.Statement.{statement}
 use Rattle.curve.proofs.samples.start_axis.Tie as tie
 
@@ -30,7 +29,7 @@ point c =
 start-requires : tie.Need-start-requires
 start-requires c κs =
     let s = c .before .before .before in
-    rw (held (s .pre .1 .1) (lit< tt) .same, point (c .before))
+    rw (stride-read (s .pre .1 .1), point (c .before))
     (record {
       stride = s .pre .1 .1;
       point = within-pos (omega (arith, s .pre .0 .coordinates (s .args .a) (rw (s .pre .0 .twelve) (omega arith))));
@@ -39,7 +38,7 @@ start-requires c κs =
 returns : tie.Need-returns
 returns c =
     let s = c .before .before .before .before in
-    rw (held (s .pre .1 .1) (lit< tt) .same, point (c .before .before), c .before .cubic-along .ensures) at (c .start .ensures)
+    rw (stride-read (s .pre .1 .1), point (c .before .before), c .before .cubic-along .ensures) at (c .start .ensures)
 
 pub start-axis-spec : {M : Type 1} → statement M
 start-axis-spec =

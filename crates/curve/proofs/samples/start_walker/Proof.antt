@@ -1,20 +1,9 @@
 -- `start_walker` meets its contract: sample 0 on each axis.
-use mathlib.Core.Path.{_≡_}
 use lib.Dec.{lit<}
-use lib.IntN.{ℤ}
 use Rattle.cube.specs.Cube.{x-axis, y-axis, z-axis}
-use Rattle.cubic.proofs.Fits.{read, held}
-use Rattle.curve.specs.Machine.{SmallStride}
+use Rattle.scan.proofs.Natural.{stride-read, small-read}
 use Rattle.curve.proofs.samples.start_walker.Statement.{statement}
 use Rattle.curve.proofs.samples.start_walker.Tie as tie
-
--- What is read back of a stride.
-module _ {h : ℤ} (p : SmallStride h) where
-  stride-read : read h ≡ h
-  stride-read = held p (lit< tt) .same
-
-  small-read : SmallStride (read h)
-  small-read = rw stride-read p
 
 start-axis-requires : tie.Need-start-axis-requires
 start-axis-requires c κs =

@@ -12,6 +12,7 @@ use mir.Syntax.{w64}
 use mir.Val.{toZ}
 use mir.Facts.{toZ-ofZ}
 use Rattle.drawing.specs.Drawing.{marked}
+use Rattle.drawing.proofs.Marked.{marked-append}
 use Rattle.scan.specs.declared.walker.Walker.{Walker}
 use Rattle.scan.specs.declared.walker.Strides.{Strides}
 use Rattle.scan.specs.Walker.{stepAll, after, HasPlace, placeOf, walkers, OnGrid}
@@ -28,12 +29,6 @@ record SoFar (scale : ℤ) (h : Strides) (mark : ℕ) (w₀ : Walker) (grid₀ :
   pub size : length grid ≡ length grid₀
 
 module _ (scale : ℤ) (h : Strides) (mark : ℕ) (w₀ : Walker) where
-  -- One mark more.
-  marked-more : (ps : List ℕ) (p : ℕ) (g : List ℕ) → marked mark (ps ++ p ∷ []) g ≡ set (marked mark ps g) p mark
-  unfolding marked
-  marked-more [] p g = refl
-  marked-more (q ∷ ps) p g = marked-more ps p (set g q mark)
-
   -- With the first mark.
   first : {n : ℕ} (g : List ℕ) → OnGrid n scale h w₀ (length g) →
       SoFar scale h mark w₀ (set g (placeOf w₀) mark) n 0 w₀ (set g (placeOf w₀) mark)
@@ -48,7 +43,7 @@ module _ (scale : ℤ) (h : Strides) (mark : ℕ) (w₀ : Walker) where
   -- With the mark of the next step's place.
   next : {n i : ℕ} {w w′ : Walker} {grid₀ grid : List ℕ} → SoFar scale h mark w₀ grid₀ n i w grid → i < n →
       w′ ≡ stepAll scale h w → SoFar scale h mark w₀ grid₀ n (suc i) w′ (set grid (placeOf w′) mark)
-  unfolding walkers
+  unfolding walkers marked
   next {i} s l e =
       let more = step-more (s .steps) l e in
       record {
@@ -56,7 +51,7 @@ module _ (scale : ℤ) (h : Strides) (mark : ℕ) (w₀ : Walker) where
         room = rw length-set (s .room);
         marks = λ g f.
             rw (s .marks g f, more .walker, map-append)
-            (sym (marked-more (map placeOf (walkers i scale h w₀)) (placeOf (after scale h w₀ (suc i))) g));
+            (sym (marked-append mark (map placeOf (walkers i scale h w₀)) _ g));
         size = rw length-set (s .size);
       }
 

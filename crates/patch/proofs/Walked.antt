@@ -1,0 +1,229 @@
+-- The walk through a patch's rows. The walk along u through t = 0 gives each row's first cell and remainder, and the cubics
+-- along u its differences along t; each row then walks along t.
+use mathlib.Core.Path.{_≡_, refl, sym, _∙_, ap, ap₂}
+use mathlib.Core.List.{List, [], _∷_, _++_, map, map-append, map-map, append-nil}
+use Prim.Native.Nat.{ℕ, zero, suc, _*_, _≤_, _<_, _^_, zero-le}
+use native.Mathlib.Nat.{le-trans, mul-le-mul}
+use native.Mathlib.Omega.{arith}
+use lib.Dec.{lit≤, lit<}
+use lib.IntN.{ℤ, pos}
+use lib.ListN.{length}
+use Rattle.bezier.specs.Exact.{no-index, index, no-corner, first}
+use Rattle.bezier.proofs.Ends.{corner-value}
+use Rattle.decide.specs.Refusal.{accepted}
+use Rattle.walk.specs.Walk.{move, walk, cell}
+use Rattle.cube.specs.Cube.{Axis, x-axis, y-axis, z-axis, place}
+use Rattle.drawing.specs.Object.{offset, coordinate, scaleOf, exact, cellOf}
+use Rattle.drawing.specs.Refusals.{Drawable, drawVerdict}
+use Rattle.drawing.specs.Drawing.{row, rows, samples, marked, cells, drawn}
+use Rattle.drawing.proofs.Samples.{rows-append, one-row}
+use Rattle.drawing.proofs.Marked.{marked-append}
+use Rattle.cubic.specs.Axis.{startOf, rowOf}
+use Rattle.cubic.specs.Differences.{delta, differencesAt, nextOf}
+use Rattle.cubic.specs.Tracks.{Tracks}
+use Rattle.cubic.proofs.Tracks.{start-tracks, row-tracks}
+use Rattle.scan.specs.declared.walker.Strides.{Strides}
+use Rattle.scan.specs.declared.walker.Walker.{Walker}
+use Rattle.scan.specs.Walker.{axisOf, strideOf, gridStrides, stepAll, placeOf, walkers, OnGrid}
+use Rattle.scan.proofs.Axes.{offset-small}
+use Rattle.scan.proofs.Samples.{Walk, At, along, row-moves, at-next, at-steps, gridStride, grid-stride-is, grid-stride-small}
+use Rattle.scan.proofs.Samples.{row-on-grid, row-places}
+use Rattle.patch.specs.declared.Patch.{Patch}
+use Rattle.patch.specs.declared.rows.Line.{Line}
+use Rattle.patch.specs.declared.rows.Lines.{Lines}
+use Rattle.patch.specs.Patch.{patchOf}
+use Rattle.patch.specs.Machine.{InLimits, columnAlong, doubledAlong, cubicAlong, scaleAlong, startLines, lineOf, LinesRoom}
+use Rattle.patch.specs.Machine.{nextLines, rowWalker}
+use Rattle.patch.proofs.Along.{cubic-room, row-room, cubic-next}
+use Rattle.patch.proofs.Search.{patch-scale, row-follows, line-follows}
+
+-- The sample of row j at t = 0.
+abbrev first-of : ℕ → List ℕ
+first-of j = zero ∷ j ∷ []
+
+-- The walk along u, on three axes.
+abbrev along-u : Lines → Walker
+along-u l = record { x = l .x .walk; y = l .y .walk; z = l .z .walk }
+
+along-u-on : (l : Lines) (a : Axis) → axisOf (along-u l) a ≡ lineOf l a .walk
+along-u-on l x-axis = refl
+along-u-on l y-axis = refl
+along-u-on l z-axis = refl
+
+row-on : (l : Lines) (a : Axis) →
+    axisOf (rowWalker l) a ≡ rowOf (lineOf l a .walk) (lineOf l a .d1) (lineOf l a .d2) (lineOf l a .d3)
+row-on l x-axis = refl
+row-on l y-axis = refl
+row-on l z-axis = refl
+
+-- What the lines hold at row j.
+pub record OnRow (p : Patch) (h : Strides) (j : ℕ) (l : Lines) : Type 0 where
+  pub walk : At (patchOf p) h first-of (λ a. doubledAlong p (offset a) 0) j (along-u l)
+  pub d1 : (a : Axis) → lineOf l a .d1 ≡ cubicAlong p (offset a) 1 j
+  pub d2 : (a : Axis) → lineOf l a .d2 ≡ cubicAlong p (offset a) 2 j
+  pub d3 : (a : Axis) → lineOf l a .d3 ≡ cubicAlong p (offset a) 3 j
+
+module _ (p : Patch) (h : Strides) where
+  -- Row 0 on each axis.
+  start-on : (a : Axis) →
+      axisOf (along-u (startLines p h)) a ≡
+      startOf (strideOf h a) (pos (coordinate (p .points) a 0)) (cubicAlong p (offset a) 0 0)
+  unfolding coordinate offset
+  start-on x-axis = refl
+  start-on y-axis = refl
+  start-on z-axis = refl
+
+  start-difference : (a : Axis) →
+      (lineOf (startLines p h) a .d1 ≡ cubicAlong p (offset a) 1 0) ×
+      (lineOf (startLines p h) a .d2 ≡ cubicAlong p (offset a) 2 0) ×
+      (lineOf (startLines p h) a .d3 ≡ cubicAlong p (offset a) 3 0)
+  unfolding offset
+  start-difference x-axis = (refl, refl, refl)
+  start-difference y-axis = (refl, refl, refl)
+  start-difference z-axis = (refl, refl, refl)
+
+  -- The lines start at row 0.
+  pub start-on-row : OnRow p h 0 (startLines p h)
+  unfolding cellOf cell walk exact delta
+  start-on-row = record {
+    walk = record {
+      on = λ a.
+          rw (start-on a)
+          (start-tracks (coordinate (p .points) a 0) (line-follows p a zero-le)
+          (corner-value (coordinate (p .points) a) (first (first no-corner))) refl);
+    };
+    d1 = λ a. start-difference a .0;
+    d2 = λ a. start-difference a .1;
+    d3 = λ a. start-difference a .2;
+  }
+
+  -- The row starts at its first sample.
+  pub row-starts : {j : ℕ} {l : Lines} → OnRow p h j l →
+      At (patchOf p) h (along (j ∷ [])) (λ a i. doubledAlong p (offset a) i j) 0 (rowWalker l)
+  row-starts {j} {l} o = record {
+    on = λ a.
+        rw (row-on l a)
+        (row-tracks (pos (p .m))
+        (columnAlong p (offset a) 0) (columnAlong p (offset a) 1) (columnAlong p (offset a) 2) (columnAlong p (offset a) 3)
+        j (rw (along-u-on l a) at (o .walk .on a)) (o .d1 a) (o .d2 a) (o .d3 a));
+  }
+
+-- The next row's differences on each axis.
+next-difference : (p : Patch) (h : Strides) (N : ℤ) {j : ℕ} {l : Lines} → OnRow p h j l → (a : Axis) →
+    (lineOf (nextLines N h l) a .d1 ≡ cubicAlong p (offset a) 1 (suc j)) ×
+    (lineOf (nextLines N h l) a .d2 ≡ cubicAlong p (offset a) 2 (suc j)) ×
+    (lineOf (nextLines N h l) a .d3 ≡ cubicAlong p (offset a) 3 (suc j))
+next-difference p h N {j} {l} o a =
+    on a
+    (ap nextOf (o .d1 a) ∙ cubic-next p (offset a) 1 j)
+    (ap nextOf (o .d2 a) ∙ cubic-next p (offset a) 2 j)
+    (ap nextOf (o .d3 a) ∙ cubic-next p (offset a) 3 j)
+  where
+    on : (a : Axis) → nextOf (lineOf l a .d1) ≡ cubicAlong p (offset a) 1 (suc j) →
+        nextOf (lineOf l a .d2) ≡ cubicAlong p (offset a) 2 (suc j) →
+        nextOf (lineOf l a .d3) ≡ cubicAlong p (offset a) 3 (suc j) →
+        (lineOf (nextLines N h l) a .d1 ≡ cubicAlong p (offset a) 1 (suc j)) ×
+        (lineOf (nextLines N h l) a .d2 ≡ cubicAlong p (offset a) 2 (suc j)) ×
+        (lineOf (nextLines N h l) a .d3 ≡ cubicAlong p (offset a) 3 (suc j))
+    on x-axis e f g = (e, f, g)
+    on y-axis e f g = (e, f, g)
+    on z-axis e f g = (e, f, g)
+
+module _ {S : ℕ} (p : Patch) (l : InLimits p) (d : Drawable S (patchOf p)) where
+  abbrev N : ℤ
+  N = pos (scaleOf (patchOf p))
+
+  scale-small : scaleOf (patchOf p) ≤ 2 ^ 60
+  scale-small =
+      rw (patch-scale p)
+      (le-trans
+      (mul-le-mul
+      (mul-le-mul (mul-le-mul (l .n-most) (l .n-most)) (l .n-most))
+      (mul-le-mul (mul-le-mul (l .m-most) (l .m-most)) (l .m-most)))
+      (lit≤ tt))
+
+  -- The walk along u.
+  u-walk : Walk S (patchOf p) (gridStrides S) (p .m) first-of (λ a. doubledAlong p (offset a) 0)
+  unfolding cellOf cell walk delta
+  u-walk = record {
+    drawable = d;
+    scale-small = scale-small;
+    stride = gridStride S;
+    stride-is = grid-stride-is S;
+    stride-small = grid-stride-small (d .side-most);
+    sample = λ j hj. index zero-le (index hj no-index);
+    moves = λ a j. refl;
+    doubles = λ a. line-follows p a zero-le;
+    room = λ a j hj. cubic-room l (offset-small a) hj 0 (lit< tt);
+  }
+
+  -- A row.
+  t-walk : {j : ℕ} → j ≤ p .m →
+      Walk S (patchOf p) (gridStrides S) (p .n) (along (j ∷ [])) (λ a i. doubledAlong p (offset a) i j)
+  t-walk {j} hj = record {
+    drawable = d;
+    scale-small = scale-small;
+    stride = gridStride S;
+    stride-is = grid-stride-is S;
+    stride-small = grid-stride-small (d .side-most);
+    sample = λ i hi. index hi (index hj no-index);
+    moves = row-moves (patchOf p) (j ∷ []);
+    doubles = λ a. row-follows p a hj;
+    room = λ a i hi. row-room l (offset-small a) hj hi;
+  }
+
+  module _ {j : ℕ} {lines : Lines} (o : OnRow p (gridStrides S) j lines) where
+    -- There is room for the next row.
+    pub next-room : j < p .m → LinesRoom N (gridStrides S) lines
+    next-room hj = record {
+      on = λ a. record {
+        walk = rw (← along-u-on lines a) (at-steps u-walk (omega arith) (o .walk) .on a);
+        d1 = rw (o .d1 a) (cubic-room l (offset-small a) (omega arith) 1 (lit< tt));
+        d2 = rw (o .d2 a) (cubic-room l (offset-small a) (omega arith) 2 (lit< tt));
+        d3 = rw (o .d3 a) (cubic-room l (offset-small a) (omega arith) 3 (lit< tt));
+      };
+    }
+
+    -- The next row.
+    pub next-on-row : j < p .m → OnRow p (gridStrides S) (suc j) (nextLines N (gridStrides S) lines)
+    next-on-row hj = record {
+      walk = at-next u-walk hj (o .walk);
+      d1 = λ a. next-difference p (gridStrides S) N o a .0;
+      d2 = λ a. next-difference p (gridStrides S) N o a .1;
+      d3 = λ a. next-difference p (gridStrides S) N o a .2;
+    }
+
+    -- The row's places are bytes of the grid, and those of its samples' cells.
+    pub row-in-grid : j ≤ p .m → OnGrid (p .n) N (gridStrides S) (rowWalker lines) (S * S * S)
+    row-in-grid hj = row-on-grid (t-walk hj) (row-starts p (gridStrides S) o)
+
+    pub places-of-row : j ≤ p .m →
+        map placeOf (walkers (p .n) N (gridStrides S) (rowWalker lines)) ≡
+        map (λ s. place S (cellOf (patchOf p) s)) (row (p .n) (j ∷ []))
+    places-of-row hj = row-places (t-walk hj) (row-starts p (gridStrides S) o)
+
+-- The places of the rows 0 to j.
+abbrev pub places : (S : ℕ) → Patch → ℕ → List ℕ
+places S p j = map (λ s. place S (cellOf (patchOf p) s)) (rows (p .n) (row j []))
+
+module _ (S : ℕ) (p : Patch) where
+  abbrev row-at : ℕ → List ℕ
+  row-at j = map (λ s. place S (cellOf (patchOf p) s)) (row (p .n) (j ∷ []))
+
+  -- Row 0 alone, and one row more.
+  pub first-row : places S p 0 ≡ row-at 0
+  unfolding row rows
+  first-row = ap (map (λ s. place S (cellOf (patchOf p) s))) (append-nil (row (p .n) (0 ∷ [])))
+
+  pub one-row-more : (j : ℕ) → places S p (suc j) ≡ places S p j ++ row-at (suc j)
+  unfolding row rows
+  one-row-more j =
+      ap (map (λ s. place S (cellOf (patchOf p) s)))
+      (rows-append (p .n) (row j []) ((suc j ∷ []) ∷ []) ∙ ap (λ r. rows (p .n) (row j []) ++ r) (append-nil (row (p .n) (suc j ∷ [])))) ∙
+      map-append (λ s. place S (cellOf (patchOf p) s)) (rows (p .n) (row j [])) _
+
+  -- What an accepted drawing leaves are the marks of all rows.
+  pub drawn-rows : (grid : List ℕ) → drawVerdict S (length grid) (patchOf p) ≡ accepted →
+      drawn S (patchOf p) grid ≡ marked (p .mark) (places S p (p .m)) grid
+  unfolding drawn cells samples
+  drawn-rows grid e = rw (e, map-map) (ap (λ l. marked (p .mark) (map (λ s. place S (cellOf (patchOf p) s)) (rows (p .n) l)) grid) (one-row (p .m)))
