@@ -7,7 +7,8 @@ use lib.Dec.{lit≤, lit<}
 use lib.IntN.{ℤ, pos, _-ℤ_, _*ℤ_}
 use mir.Syntax.{w64}
 use mir.Val.{SFits}
-use lib.ListN.{getD}
+use lib.ListN.{length, getD}
+use Rattle.drawing.specs.Refusals.{Drawable}
 use Rattle.cubic.specs.declared.differences.Cubic.{Cubic}
 use Rattle.cubic.specs.Differences.{delta, differencesAt, nextOf, headsOf, slopesOf, IsCubic}
 use Rattle.cubic.specs.Room.{Startable, Room}
@@ -21,8 +22,20 @@ use Rattle.scan.proofs.Column.{column-room}
 use Rattle.scan.proofs.Natural.{natural-held}
 use Rattle.patch.specs.declared.Patch.{Patch}
 use Rattle.patch.specs.declared.surface.Surface.{Surface}
+use Rattle.patch.specs.Patch.{patchOf}
 use Rattle.patch.specs.Machine.{InLimits, numbered, columnAlong, doubledAlong, cubicAlong, surfaceAlong, scaleAlong}
 use Rattle.patch.specs.Machine.{SurfaceRoom, nextSurface}
+
+-- What can be drawn is within the limits.
+pub drawable-in-limits : {S : ℕ} (p : Patch) → length (p .points) ≡ 48 → Drawable S (patchOf p) → InLimits p
+drawable-in-limits p forty-eight d = record {
+  n-least = d .count-least 0 (lit< tt);
+  n-most = d .count-most 0 (lit< tt);
+  m-least = d .count-least 1 (lit< tt);
+  m-most = d .count-most 1 (lit< tt);
+  forty-eight = forty-eight;
+  coordinates = λ b h. omega (arith, d .coordinate-below b h, d .side-most);
+}
 
 -- The points number k, 4 + k, 8 + k and 12 + k are twelve bytes apart.
 pub column-bytes : (p : Patch) (a k : ℕ) → doubledColumn (p .points) (p .n) 12 (3 * k + a) ≡ columnAlong p a k

@@ -14,8 +14,9 @@ use Rattle.decide.proofs.Truth.{either, decided, true-of, false-of}
 use Rattle.decide.proofs.Some.{some-below}
 use Rattle.walk.specs.Steps.{farApart, Neighbours, first, later, LongStep, tooLong}
 use Rattle.walk.proofs.Long.{too-long}
-use Rattle.cube.specs.Cube.{Axis}
+use Rattle.cube.specs.Cube.{Axis, x-axis, y-axis, z-axis, someAxis}
 use Rattle.drawing.specs.Object.{offset, coordinate, scaleOf, exact}
+use Rattle.drawing.specs.Refusals.{stepsTooLong}
 use Rattle.cubic.specs.Axis.{longOf}
 use Rattle.cubic.specs.Differences.{delta}
 use Rattle.cubic.specs.Tracks.{Doubles}
@@ -118,3 +119,8 @@ module _ (p : Patch) (a : Axis) where
       seen (first {i = i} hi (index {i = j} hj no-index)) t = found-t p (offset a) i j hi hj (far-t hi hj ∙ true-of _ t)
       seen (later {i = i} hi (first {i = j} hj no-index)) t = found-u p (offset a) i j hi hj (far-u hi hj ∙ true-of _ t)
       seen (later hi (later hj none)) t = elim none [ ]
+
+-- Steps are too long where one of the three axes has a long step.
+pub some-axis-long : (p : Patch) → stepsTooLong (patchOf p) ≡ (longAlong p 0 || longAlong p 1 || longAlong p 2)
+unfolding stepsTooLong someAxis offset
+some-axis-long p = rw (← search-finds p x-axis, ← search-finds p y-axis, ← search-finds p z-axis)

@@ -207,7 +207,7 @@ abbrev pub places : (S : ℕ) → Patch → ℕ → List ℕ
 places S p j = map (λ s. place S (cellOf (patchOf p) s)) (rows (p .n) (row j []))
 
 module _ (S : ℕ) (p : Patch) where
-  abbrev row-at : ℕ → List ℕ
+  abbrev pub row-at : ℕ → List ℕ
   row-at j = map (λ s. place S (cellOf (patchOf p) s)) (row (p .n) (j ∷ []))
 
   -- Row 0 alone, and one row more.
@@ -227,3 +227,25 @@ module _ (S : ℕ) (p : Patch) where
       drawn S (patchOf p) grid ≡ marked (p .mark) (places S p (p .m)) grid
   unfolding drawn cells samples
   drawn-rows grid e = rw (e, map-map) (ap (λ l. marked (p .mark) (map (λ s. place S (cellOf (patchOf p) s)) (rows (p .n) l)) grid) (one-row (p .m)))
+
+-- Row 0, with the strides as the code holds them.
+pub lines-start : {S : ℕ} (p : Patch) {h : Strides} {lines : Lines} → h ≡ gridStrides S → lines ≡ startLines p h →
+    OnRow p (gridStrides S) 0 lines
+lines-start {S} p f q = rw (q, f) (start-on-row p (gridStrides S))
+
+-- The same with the scale N and the strides h as the code holds them.
+module _ {S : ℕ} (p : Patch) (l : InLimits p) (d : Drawable S (patchOf p)) {N : ℤ} {h : Strides} (e : N ≡ pos (scaleOf (patchOf p)))
+    (f : h ≡ gridStrides S) {j : ℕ} {lines : Lines} (o : OnRow p (gridStrides S) j lines) where
+  pub room-for-next : j < p .m → LinesRoom N h lines
+  room-for-next hj = rw (e, f) (next-room p l d o hj)
+
+  pub next-is : {r : Lines} → r ≡ nextLines N h lines → j < p .m → OnRow p (gridStrides S) (suc j) r
+  next-is q hj = rw (q, e, f) (next-on-row p l d o hj)
+
+  module _ {w : Walker} (q : w ≡ rowWalker lines) (hj : j ≤ p .m) where
+    pub room-for-row : {len : ℕ} → len ≡ S * S * S → OnGrid (p .n) N h w len
+    room-for-row v = rw (v, q, e, f) (row-in-grid p l d o hj)
+
+    pub row-marks : (grid : List ℕ) {grid′ : List ℕ} → grid′ ≡ marked (p .mark) (map placeOf (walkers (p .n) N h w)) grid →
+        grid′ ≡ marked (p .mark) (row-at S p j) grid
+    row-marks grid r = rw (q, e, f, places-of-row p l d o hj) at r

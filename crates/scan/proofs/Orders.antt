@@ -1,21 +1,28 @@
 -- The order for drawing and listing in two parts: what comes before the step test, and the step test. What the first part
--- passes is within the limits that the step test asks for.
+-- passes is within the limits that the step test asks for. Then verdicts and answers as the functions that draw meet them.
 use mathlib.Core.Path.{_≡_, sym, _∙_, ap}
 use mathlib.Core.Logic.{⊎-elim}
-use mathlib.Core.Bool.{Bool, true, false}
+use mathlib.Core.Bool.{Bool, true, false, not}
 use mathlib.Core.List.{List, [], _∷_, _++_}
 use Prim.Native.Nat.{ℕ, _≤_, _<_}
+use lib.Dec.{eqb}
 use lib.ListN.{length, getD}
 use Rattle.decide.specs.Some.{someOf}
 use Rattle.decide.specs.Refusal.{_when_, Verdict, accepted, refused, firstThat, orElse}
 use Rattle.decide.proofs.Truth.{false-iff, true-of, decided}
 use Rattle.decide.proofs.Some.{some-of}
 use Rattle.decide.proofs.Refusal.{accepted-none, first-append, first-applies}
-use Rattle.cube.specs.Cube.{sideOut}
+use Rattle.cube.specs.Cube.{sideOut, volume}
 use Rattle.cube.proofs.Words.{side-in}
 use Rattle.drawing.specs.Object.{Object}
-use Rattle.drawing.specs.Refusals.{countOut, coordinateOut, stepsTooLong, order}
+use Rattle.drawing.specs.Refusals.{countOut, coordinateOut, stepsTooLong, order, drawVerdict, sampleCount}
+use Rattle.drawing.specs.Drawing.{drawn}
 use Rattle.drawing.proofs.Accepted.{coordinate-in}
+use Rattle.drawing.proofs.Drawn.{drawn-refused}
+use Rattle.scan.specs.declared.answer.Verdict as answer
+use Rattle.scan.specs.declared.answer.Verdict.the-variants.{Accepted, Refused}
+use Rattle.scan.specs.declared.answer.Answer.the-variants as answers
+use Rattle.scan.specs.Answer.{verdictOf, Draws}
 use Rattle.scan.specs.Refusals.{beforeSteps}
 
 -- The verdict of the step test.
@@ -69,3 +76,48 @@ grid-at-side S o g g′ m l same =
     (λ t. let out = true-of (sideOut S) t in first-applies 11 (sideOut S) _ out ∙ sym (first-applies 11 (sideOut S) _ out))
     (λ f. rw (same (side-in S .0 f .1)))
     (decided (sideOut S))
+
+-- A call's verdict, where v is what the tests before the step test answered and long what the step test did.
+module _ (S : ℕ) (o : Object) (g m l out : Bool) (count : out ≡ someOf (countOut (o .most)) (o .counts)) (v : answer.Verdict)
+    (e : verdictOf v ≡ firstThat (beforeSteps S (o .points) g m out l)) where
+  parts : firstThat (order S o g m l) ≡ orElse (verdictOf v) (stepVerdict o)
+  parts = order-parts S o g m l out count ∙ ap (λ w. orElse w (stepVerdict o)) (sym e)
+
+  -- A number before the step test.
+  pub refused-before : {k : ℕ} → v ≡ Refused k → refused k ≡ firstThat (order S o g m l)
+  refused-before q = sym (parts ∙ ap (λ w. orElse (verdictOf w) (stepVerdict o)) q)
+
+  module _ (q : v ≡ Accepted) where
+    pub past-tests : Passed S (o .points) out
+    past-tests = passed S (o .points) g m out l (sym e ∙ ap verdictOf q)
+
+    steps-decide : firstThat (order S o g m l) ≡ stepVerdict o
+    steps-decide = parts ∙ ap (λ w. orElse (verdictOf w) (stepVerdict o)) q
+
+    -- 15, and no number.
+    pub refused-long : {long : Bool} → long ≡ stepsTooLong o → long ≡ true → refused 15 ≡ firstThat (order S o g m l)
+    refused-long t b = sym (steps-decide ∙ long-refused o (sym t ∙ b))
+
+    pub accepted-short : {long : Bool} → long ≡ stepsTooLong o → long ≡ false → accepted ≡ firstThat (order S o g m l)
+    accepted-short t b = sym (steps-decide ∙ short-accepted o (sym t ∙ b))
+
+-- A drawing's verdict, where `cube` is what the test of the grid's length answered.
+pub draw-judged : (S : ℕ) (o : Object) (bytes : ℕ) (v : answer.Verdict) {cube : Bool} → (S ≤ 64 → cube ≡ eqb bytes (volume S)) →
+    verdictOf v ≡ firstThat (order S o (not cube) (eqb (o .mark) 0) false) → drawVerdict S bytes o ≡ verdictOf v
+unfolding drawVerdict
+draw-judged S o bytes v {cube} same e =
+    grid-at-side S o _ (not cube) (eqb (o .mark) 0) false (λ h. ap not (sym (same h))) ∙ sym e
+
+-- A drawing's answer and grid, by its verdict.
+module _ (S : ℕ) (o : Object) (grid : List ℕ) (v : answer.Verdict) (judged : drawVerdict S (length grid) o ≡ verdictOf v) where
+  pub draws-refused : {k : ℕ} → v ≡ Refused k → Draws S o grid grid (answers.Refused k)
+  draws-refused q =
+      let r = judged ∙ ap verdictOf q in record { answer = r; leaves = sym (drawn-refused S o grid r) }
+
+  module _ (q : v ≡ Accepted) where
+    pub draw-is-accepted : drawVerdict S (length grid) o ≡ accepted
+    draw-is-accepted = judged ∙ ap verdictOf q
+
+    pub draws-accepted : {after : List ℕ} {count : ℕ} → after ≡ drawn S o grid → count ≡ sampleCount (o .counts) →
+        Draws S o grid after (answers.Samples count)
+    draws-accepted e n = record { answer = (draw-is-accepted, n); leaves = e }

@@ -1,22 +1,16 @@
 -- `verdict` meets its contract: what comes before the step test, and then the step test, which is asked within its limits.
 use borrow.Author.Needs.{needs}
-use mathlib.Core.Path.{_≡_, refl, sym, _∙_, ap, ap₂}
+use mathlib.Core.Path.{_≡_, refl, sym, _∙_}
 use mathlib.Core.Bool.{Bool, true, false, _||_}
-use mathlib.Core.List.{[], _∷_}
 use native.Mathlib.Omega.{arith}
 use Rattle.decide.specs.Some.{someOf}
-use Rattle.decide.specs.Refusal.{accepted, firstThat, orElse}
 use Rattle.decide.proofs.Truth.{false-iff}
-use Rattle.drawing.specs.Refusals.{countOut, order}
+use Rattle.drawing.specs.Refusals.{countOut}
 use Rattle.drawing.proofs.Accepted.{count-in}
-use Rattle.scan.specs.Answer.{verdictOf}
-use Rattle.scan.proofs.Orders.{stepVerdict, order-parts, long-refused, short-accepted, passed}
+use Rattle.scan.proofs.Orders.{refused-before, past-tests, refused-long, accepted-short}
 use Rattle.curve.specs.Curve.{curveOf}
-use Rattle.curve.specs.Machine.{InLimits}
 use Rattle.curve.proofs.verdict.Statement.{statement}
 use Rattle.curve.proofs.verdict.Tie as tie
-use Rattle.curve.proofs.verdict.Reads as reads
-use Rattle.curve.proofs.verdict.Lts as lts
 
 -- One count is out where some count of the curve is.
 one-count : (b : Bool) → b ≡ (b || false)
@@ -27,30 +21,12 @@ module _ (c : tie.After-before-steps) where
   abbrev s : tie.Start
   s = c .before .before .before .before
 
-  -- What comes before the step test has the first word.
-  parts : firstThat (order (s .args .side) (curveOf (s .args .curve)) (s .args .grid-wrong) (s .args .mark-wrong)
-      (s .args .list-short)) ≡
-      orElse (verdictOf (c .before-steps .result)) (stepVerdict (curveOf (s .args .curve)))
-  unfolding someOf
-  parts =
-      order-parts (s .args .side) (curveOf (s .args .curve)) (s .args .grid-wrong) (s .args .mark-wrong) (s .args .list-short)
-      (c .before .before .is-count-out .result)
-      (c .before .before .is-count-out .ensures ∙ one-count (countOut 512 (s .args .curve .steps))) ∙
-      ap (λ v. orElse v (stepVerdict (curveOf (s .args .curve)))) (sym (c .before-steps .ensures))
+  abbrev out : Bool
+  out = c .before .before .is-count-out .result
 
-  -- What it passes is within the limits.
-  limits : verdictOf (c .before-steps .result) ≡ accepted → InLimits (s .args .curve)
-  limits e =
-      let curve = s .args .curve in
-      let p = passed (s .args .side) (curve .points) (s .args .grid-wrong) (s .args .mark-wrong)
-      (c .before .before .is-count-out .result) (s .args .list-short) (sym (c .before-steps .ensures) ∙ e) in
-      let n = count-in 512 (curve .steps) .0 (false-iff _ .0 (sym (c .before .before .is-count-out .ensures) ∙ p .count-in)) in
-      record {
-        count-least = n .0;
-        count-most = n .1;
-        twelve = search needs;
-        coordinates = λ b h. omega (arith, p .coordinate-below b h, p .side-most);
-      }
+  counted : out ≡ someOf (countOut 512) (curveOf (s .args .curve) .counts)
+  unfolding someOf
+  counted = c .before .before .is-count-out .ensures ∙ one-count (countOut 512 (s .args .curve .steps))
 
 is-count-out-requires : tie.Need-is-count-out-requires
 is-count-out-requires c κs = search needs
@@ -68,28 +44,42 @@ enum-told : tie.Need-enum-told
 enum-told c = search needs
 
 step-too-long-requires : tie.Need-step-too-long-requires
-step-too-long-requires c κs = limits (c .before .before) (ap verdictOf (c .enum-told .given .1))
+step-too-long-requires c κs =
+    let b = c .before .before in
+    let p = past-tests (s b .args .side) (curveOf (s b .args .curve)) (s b .args .grid-wrong) (s b .args .mark-wrong)
+    (s b .args .list-short) (out b) (counted b) (b .before-steps .result) (b .before-steps .ensures)
+    (c .enum-told .given .1) in
+    let n = count-in 512 (s b .args .curve .steps) .0
+    (false-iff _ .0 (sym (b .before .before .is-count-out .ensures) ∙ p .count-in)) in
+    record {
+      count-least = n .0;
+      count-most = n .1;
+      twelve = search needs;
+      coordinates = λ k h. omega (arith, p .coordinate-below k h, p .side-most);
+    }
 
 returns : tie.Need-returns
 returns c =
     let b = c .before .before .before in
-    sym (parts b ∙ ap (λ v. orElse v (stepVerdict (curveOf (s b .args .curve)))) (ap verdictOf (c .before .k .given .1)))
+    refused-before (s b .args .side) (curveOf (s b .args .curve)) (s b .args .grid-wrong) (s b .args .mark-wrong)
+    (s b .args .list-short) (out b) (counted b) (b .before-steps .result) (b .before-steps .ensures)
+    (c .before .k .given .1)
 
 returns-2 : tie.Need-returns-2
 returns-2 c =
     let t = c .before .before in
     let b = t .before .before in
-    sym (parts b ∙
-    rw (ap verdictOf (t .enum-told .given .1))
-    (long-refused (curveOf (s b .args .curve)) (sym (c .before .step-too-long .ensures) ∙ c .if1 .taken)))
+    refused-long (s b .args .side) (curveOf (s b .args .curve)) (s b .args .grid-wrong) (s b .args .mark-wrong)
+    (s b .args .list-short) (out b) (counted b) (b .before-steps .result) (b .before-steps .ensures)
+    (t .enum-told .given .1) (c .before .step-too-long .ensures) (c .if1 .taken)
 
 returns-3 : tie.Need-returns-3
 returns-3 c =
     let t = c .before .before in
     let b = t .before .before in
-    sym (parts b ∙
-    rw (ap verdictOf (t .enum-told .given .1))
-    (short-accepted (curveOf (s b .args .curve)) (sym (c .before .step-too-long .ensures) ∙ c .if1 .left)))
+    accepted-short (s b .args .side) (curveOf (s b .args .curve)) (s b .args .grid-wrong) (s b .args .mark-wrong)
+    (s b .args .list-short) (out b) (counted b) (b .before-steps .result) (b .before-steps .ensures)
+    (t .enum-told .given .1) (c .before .step-too-long .ensures) (c .if1 .left)
 
 pub verdict-spec : {M : Type 1} → statement M
 verdict-spec =
