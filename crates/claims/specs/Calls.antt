@@ -1,0 +1,26 @@
+-- Calls to the functions that draw, as calls of demand 3's list.
+use mathlib.Core.List.{List, [], _∷_}
+use Prim.Native.Nat.{ℕ}
+use Rattle.scan.specs.declared.answer.Answer.{Answer}
+use Rattle.scan.specs.Answer.{Draws}
+use Rattle.curve.specs.declared.Curve.{Curve}
+use Rattle.curve.specs.Curve.{curveOf}
+use Rattle.patch.specs.declared.Patch.{Patch}
+use Rattle.patch.specs.Patch.{patchOf}
+use Rattle.claims.specs.Demand3.{Call, draw-curve, draw-patch}
+
+-- A call of `draw_curve`, and one of `draw_patch`.
+abbrev pub curveCall : (side : ℕ) → Curve → Call
+curveCall side c = draw-curve side (c .steps) (c .points) (c .mark)
+
+abbrev pub patchCall : (side : ℕ) → Patch → Call
+patchCall side p = draw-patch side (p .n) (p .m) (p .points) (p .mark)
+
+-- Calls of the two functions in turn, each with the grid as the last one left it, as their contracts have it: the list
+-- of calls, the grid at the start and the grid in the end.
+pub data Called : List Call → List ℕ → List ℕ → Type 0 where
+  none : {grid : List ℕ} → Called [] grid grid
+  curve-then : {side : ℕ} {c : Curve} {r : Answer} {calls : List Call} {grid next after : List ℕ} →
+      Draws side (curveOf c) grid next r → Called calls next after → Called (curveCall side c ∷ calls) grid after
+  patch-then : {side : ℕ} {p : Patch} {r : Answer} {calls : List Call} {grid next after : List ℕ} →
+      Draws side (patchOf p) grid next r → Called calls next after → Called (patchCall side p ∷ calls) grid after
