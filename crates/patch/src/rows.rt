@@ -88,8 +88,9 @@ impl Line {
         let b = self.d1;
         let c = self.d2;
         let d = self.d3;
+        let next = walk.step(scale, stride);
         Line {
-            walk: walk.step(scale, stride),
+            walk: next,
             d1: b.next(),
             d2: c.next(),
             d3: d.next(),
