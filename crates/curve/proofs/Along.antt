@@ -1,12 +1,12 @@
 -- A curve along one axis: within the limits the machine may start and go on, and it follows twice the exact values.
-use mathlib.Core.Path.{_≡_, refl}
+use mathlib.Core.Path.{_≡_}
 use mathlib.Core.List.{[], _∷_}
-use Prim.Native.Nat.{ℕ, zero, suc, _+_, _*_, _≤_, _<_, _^_}
+use Prim.Native.Nat.{ℕ, _*_, _≤_, _<_, _^_}
 use native.Mathlib.Nat.{le-trans, mul-le-mul}
 use native.Mathlib.Omega.{arith}
 use lib.Dec.{lit≤, lit<}
 use lib.IntN.{ℤ, pos}
-use lib.ListN.{length, getD}
+use lib.ListN.{length}
 use Rattle.bezier.specs.Exact.{scale}
 use Rattle.cube.specs.Cube.{Axis, x-axis, y-axis, z-axis}
 use Rattle.drawing.specs.Object.{offset, coordinate, scaleOf, exact}

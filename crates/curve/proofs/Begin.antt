@@ -1,24 +1,23 @@
 -- The walker at sample 0, and the row that it walks.
 use mathlib.Core.Path.{_≡_, refl, sym, _∙_, ap}
-use mathlib.Core.List.{List, [], _∷_, _++_, map, map-map}
+use mathlib.Core.List.{List, [], _++_, map, map-map}
 use Prim.Native.Nat.{ℕ, suc, _*_, _≤_}
 use native.Mathlib.Omega.{arith}
 use lib.Dec.{lit≤}
 use lib.IntN.{pos}
-use lib.ListN.{length, getD, drop}
+use lib.ListN.{length, drop}
 use Rattle.decide.specs.Refusal.{accepted}
-use Rattle.bezier.specs.Exact.{Sample, no-index, index, no-corner, first}
+use Rattle.bezier.specs.Exact.{no-index, index, no-corner, first}
 use Rattle.bezier.proofs.Ends.{corner-value}
 use Rattle.walk.specs.Walk.{walk, cell}
 use Rattle.cube.specs.Cube.{Axis, x-axis, y-axis, z-axis}
 use Rattle.drawing.specs.Object.{offset, coordinate, scaleOf, exact, cellOf}
 use Rattle.drawing.specs.Refusals.{Drawable, drawVerdict, listVerdict, sampleCount}
-use Rattle.drawing.specs.Drawing.{row, samples, marked, bytes, cells, drawn, listed}
+use Rattle.drawing.specs.Drawing.{marked, bytes, cells, drawn, listed}
 use Rattle.drawing.proofs.Samples.{one-row}
 use Rattle.drawing.proofs.Listed.{listed-accepted}
 use Rattle.cubic.specs.Differences.{differencesAt}
 use Rattle.cubic.specs.Axis.{startOf}
-use Rattle.cubic.specs.Tracks.{Tracks}
 use Rattle.cubic.proofs.Tracks.{start-tracks}
 use Rattle.scan.specs.declared.walker.Strides.{Strides}
 use Rattle.scan.specs.Walker.{axisOf, strideOf, gridStrides, listStrides, placeOf, cellOfWalker, walkers}

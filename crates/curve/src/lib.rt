@@ -5,9 +5,8 @@ mod steps;
 
 ghost use mathlib.Core.Path.{_≡_};
 ghost use mathlib.Core.Bool.{false};
-ghost use Rattle.decide.specs.Refusal.{accepted, firstThat};
-ghost use Rattle.drawing.specs.Refusals.{order, checkVerdict, drawVerdict, listVerdict};
-ghost use Rattle.drawing.specs.Drawing.{drawn, listed};
+ghost use Rattle.decide.specs.Refusal.{firstThat};
+ghost use Rattle.drawing.specs.Refusals.{order, checkVerdict};
 ghost use Rattle.scan.specs.Answer.{verdictOf, Draws, Lists};
 ghost use Rattle.curve.specs.Curve.{curveOf};
 use scan::answer::Answer;

@@ -1,5 +1,5 @@
 -- A patch along one axis, by its number: within the limits the machine may start along t and then along u, and go on.
-use mathlib.Core.Path.{_≡_, refl, _∙_, ap}
+use mathlib.Core.Path.{_≡_}
 use Prim.Native.Nat.{ℕ, suc, _+_, _*_, _≤_, _<_, zero-le}
 use native.Mathlib.Nat.{le-trans, mul-le-mul}
 use native.Mathlib.Omega.{arith}
@@ -7,7 +7,7 @@ use lib.Dec.{lit≤, lit<}
 use lib.IntN.{ℤ, pos, _-ℤ_, _*ℤ_}
 use mir.Syntax.{w64}
 use mir.Val.{SFits}
-use lib.ListN.{length, getD}
+use lib.ListN.{length}
 use Rattle.drawing.specs.Refusals.{Drawable}
 use Rattle.cubic.specs.declared.differences.Cubic.{Cubic}
 use Rattle.cubic.specs.Differences.{delta, differencesAt, nextOf, headsOf, slopesOf, IsCubic}

@@ -1,23 +1,21 @@
 -- Long steps of a patch on one axis, by its number: what the search over rows and samples finds, or finds nowhere, and what
 -- it has to do with the definition.
-use mathlib.Core.Path.{_≡_, refl, sym, _∙_, ap}
+use mathlib.Core.Path.{_≡_, sym, _∙_}
 use mathlib.Core.Logic.{inl, inr, ⊎-elim}
 use mathlib.Core.Bool.{Bool, true, false, _||_}
 use mathlib.Core.List.{List, [], _∷_}
-use Prim.Native.Nat.{ℕ, suc, _+_, _*_, _≤_, _<_}
+use Prim.Native.Nat.{ℕ, suc, _≤_, _<_}
 use native.Mathlib.Omega.{arith}
 use lib.Dec.{T}
-use lib.IntN.{ℤ, pos}
-use Rattle.bezier.specs.Exact.{scale, Sample, no-index, index}
+use Rattle.bezier.specs.Exact.{scale, no-index, index}
 use Rattle.decide.specs.Some.{someBelow}
 use Rattle.decide.proofs.Truth.{either, decided, true-of, false-of}
 use Rattle.decide.proofs.Some.{some-below}
-use Rattle.walk.specs.Steps.{farApart, Neighbours, first, later, LongStep, tooLong}
+use Rattle.walk.specs.Steps.{farApart, Neighbours, first, later, tooLong}
 use Rattle.walk.proofs.Long.{too-long}
 use Rattle.cube.specs.Cube.{Axis, x-axis, y-axis, z-axis, someAxis}
 use Rattle.drawing.specs.Object.{offset, coordinate, scaleOf, exact}
 use Rattle.drawing.specs.Refusals.{stepsTooLong}
-use Rattle.cubic.specs.Axis.{longOf}
 use Rattle.cubic.specs.Differences.{delta}
 use Rattle.cubic.specs.Tracks.{Doubles}
 use Rattle.cubic.proofs.Exact.{row-doubles, line-doubles}

@@ -1,6 +1,6 @@
 -- The walk through a patch's rows. The walk along u through t = 0 gives each row's first cell and remainder, and the cubics
 -- along u its differences along t; each row then walks along t.
-use mathlib.Core.Path.{_≡_, refl, sym, _∙_, ap, ap₂}
+use mathlib.Core.Path.{_≡_, refl, _∙_, ap}
 use mathlib.Core.List.{List, [], _∷_, _++_, map, map-append, map-map, append-nil}
 use Prim.Native.Nat.{ℕ, zero, suc, _*_, _≤_, _<_, _^_, zero-le}
 use native.Mathlib.Nat.{le-trans, mul-le-mul}
@@ -11,28 +11,25 @@ use lib.ListN.{length}
 use Rattle.bezier.specs.Exact.{no-index, index, no-corner, first}
 use Rattle.bezier.proofs.Ends.{corner-value}
 use Rattle.decide.specs.Refusal.{accepted}
-use Rattle.walk.specs.Walk.{move, walk, cell}
+use Rattle.walk.specs.Walk.{walk, cell}
 use Rattle.cube.specs.Cube.{Axis, x-axis, y-axis, z-axis, place}
 use Rattle.drawing.specs.Object.{offset, coordinate, scaleOf, exact, cellOf}
 use Rattle.drawing.specs.Refusals.{Drawable, drawVerdict}
 use Rattle.drawing.specs.Drawing.{row, rows, samples, marked, cells, drawn}
 use Rattle.drawing.proofs.Samples.{rows-append, one-row}
-use Rattle.drawing.proofs.Marked.{marked-append}
 use Rattle.cubic.specs.Axis.{startOf, rowOf}
-use Rattle.cubic.specs.Differences.{delta, differencesAt, nextOf}
-use Rattle.cubic.specs.Tracks.{Tracks}
+use Rattle.cubic.specs.Differences.{delta, nextOf}
 use Rattle.cubic.proofs.Tracks.{start-tracks, row-tracks}
 use Rattle.scan.specs.declared.walker.Strides.{Strides}
 use Rattle.scan.specs.declared.walker.Walker.{Walker}
-use Rattle.scan.specs.Walker.{axisOf, strideOf, gridStrides, stepAll, placeOf, walkers, OnGrid}
+use Rattle.scan.specs.Walker.{axisOf, strideOf, gridStrides, placeOf, walkers, OnGrid}
 use Rattle.scan.proofs.Axes.{offset-small}
 use Rattle.scan.proofs.Samples.{Walk, At, along, row-moves, at-next, at-steps, gridStride, grid-stride-is, grid-stride-small}
 use Rattle.scan.proofs.Samples.{row-on-grid, row-places}
 use Rattle.patch.specs.declared.Patch.{Patch}
-use Rattle.patch.specs.declared.rows.Line.{Line}
 use Rattle.patch.specs.declared.rows.Lines.{Lines}
 use Rattle.patch.specs.Patch.{patchOf}
-use Rattle.patch.specs.Machine.{InLimits, columnAlong, doubledAlong, cubicAlong, scaleAlong, startLines, lineOf, LinesRoom}
+use Rattle.patch.specs.Machine.{InLimits, columnAlong, doubledAlong, cubicAlong, startLines, lineOf, LinesRoom}
 use Rattle.patch.specs.Machine.{nextLines, rowWalker}
 use Rattle.patch.proofs.Along.{cubic-room, row-room, cubic-next}
 use Rattle.patch.proofs.Search.{patch-scale, row-follows, line-follows}

@@ -1,7 +1,6 @@
 // One axis of a patch by its differences: equations 22 and 23.
 ghost use mathlib.Core.Path.{_≡_};
 ghost use Prim.Native.Nat.{_<_};
-ghost use Rattle.cubic.specs.Blend.{column, twice};
 ghost use Rattle.cubic.specs.Differences.{differencesAt, headsOf, slopesOf};
 ghost use Rattle.patch.specs.Machine.{InLimits, columnAlong, surfaceAlong, SurfaceRoom, nextSurface};
 use crate::Patch;

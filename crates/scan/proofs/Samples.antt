@@ -24,7 +24,7 @@ use Rattle.cubic.proofs.Levels.{tracks-steps}
 use Rattle.scan.specs.declared.walker.Walker.{Walker}
 use Rattle.scan.specs.declared.walker.Strides.{Strides}
 use Rattle.scan.specs.Walker.{axisOf, strideOf, gridStrides, listStrides, SmallStrides, StepsAll, stepAll, after, HasPlace, placeOf}
-use Rattle.scan.specs.Walker.{IsByte, ByteCell, cellOfWalker, walkers, OnGrid, OnList}
+use Rattle.scan.specs.Walker.{cellOfWalker, walkers, OnGrid, OnList}
 use Rattle.scan.proofs.Natural.{square-at-most}
 
 -- A walk of n steps through the samples σ 0 to σ n of a drawable object, each cell one move from the last: a curve, a row

@@ -34,7 +34,8 @@ fn byte(z: i64) -> u8
 // Lists the cells of a row: the walker's, and that of each of n steps.
 pub fn list_row(start: Walker, n: u32, scale: i64, h: Strides, list: &mut [u8])
     requires { ⌜ OnList n scale h start (length (now list)) ⌝ }
-    ensures { λ _. ⌜ now (list .exit) ≡ bytes (map cellOfWalker (walkers n scale h start)) ++ drop (3 * suc n) (now (list .entry)) ⌝ }
+    ensures { λ _. ⌜ now (list .exit) ≡
+        bytes (map cellOfWalker (walkers n scale h start)) ++ drop (3 * suc n) (now (list .entry)) ⌝ }
 {
     let mut w = start;
     let mut at = 0;

@@ -57,7 +57,8 @@ pub fn before_steps(
     count_out: bool,
     list_short: bool,
 ) -> Verdict
-    ensures { λ r. ⌜ verdictOf r ≡ firstThat (beforeSteps side (now (points .entry)) «grid_wrong» «mark_wrong» «count_out» «list_short») ⌝ }
+    ensures { λ r. ⌜ verdictOf r ≡
+        firstThat (beforeSteps side (now (points .entry)) «grid_wrong» «mark_wrong» «count_out» «list_short») ⌝ }
 {
     if side < 2 || 64 < side {
         return Verdict::Refused(11);

@@ -6,7 +6,6 @@ use Prim.Native.Nat.{suc, _+_, _*_}
 use native.Mathlib.Omega.{arith}
 use lib.Dec.{lit<}
 use lib.ListN.{length}
-use Rattle.decide.specs.Refusal.{accepted}
 use Rattle.drawing.specs.Refusals.{listVerdict, sampleCount}
 use Rattle.drawing.proofs.Accepted.{list-accepted}
 use Rattle.drawing.proofs.Listed.{listed-refused}
@@ -14,8 +13,6 @@ use Rattle.scan.specs.Answer.{verdictOf}
 use Rattle.curve.specs.Curve.{curveOf}
 use Rattle.curve.proofs.list_curve.Statement.{statement}
 use Rattle.curve.proofs.list_curve.Tie as tie
-use Rattle.curve.proofs.list_curve.Reads as reads
-use Rattle.curve.proofs.list_curve.Lts as lts
 
 -- The verdict is that of the listing order.
 module _ (c : tie.After-verdict) where

@@ -1,6 +1,6 @@
 -- `list_samples` meets its contract: a drawable curve is a row that the walker walks.
 use borrow.Author.Needs.{needs}
-use mathlib.Core.Path.{_≡_, sym, _∙_, ap}
+use mathlib.Core.Path.{_≡_, sym, _∙_}
 use Prim.Native.Nat.{ℕ, suc, _*_, _≤_}
 use native.Mathlib.Omega.{arith}
 use lib.ListN.{length}
@@ -16,8 +16,6 @@ use Rattle.curve.proofs.Along.{drawable-in-limits, scale-held}
 use Rattle.curve.proofs.Begin.{start-at, list-row, listed-row}
 use Rattle.curve.proofs.samples.list_samples.Statement.{statement}
 use Rattle.curve.proofs.samples.list_samples.Tie as tie
-use Rattle.curve.proofs.samples.list_samples.Reads as reads
-use Rattle.curve.proofs.samples.list_samples.Lts as lts
 
 -- There is room for the samples' bytes.
 room : (c : Curve) {len : ℕ} → 3 * sampleCount (curveOf c .counts) ≤ len → 3 * suc (c .steps) ≤ len

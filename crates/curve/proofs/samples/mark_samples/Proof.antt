@@ -1,7 +1,6 @@
 -- `mark_samples` meets its contract: a drawable curve is a row that the walker walks.
 use borrow.Author.Needs.{needs}
-use mathlib.Core.Path.{_≡_, sym, _∙_, ap}
-use native.Mathlib.Omega.{arith}
+use mathlib.Core.Path.{_≡_, sym, _∙_}
 use lib.ListN.{length}
 use Rattle.drawing.specs.Refusals.{Drawable}
 use Rattle.drawing.proofs.Accepted.{draw-accepted}
@@ -14,8 +13,6 @@ use Rattle.curve.proofs.Along.{drawable-in-limits, scale-held}
 use Rattle.curve.proofs.Begin.{start-at, grid-row, drawn-row}
 use Rattle.curve.proofs.samples.mark_samples.Statement.{statement}
 use Rattle.curve.proofs.samples.mark_samples.Tie as tie
-use Rattle.curve.proofs.samples.mark_samples.Reads as reads
-use Rattle.curve.proofs.samples.mark_samples.Lts as lts
 
 module _ (c : tie.Start) where
   twelve : length (c .args .curve .points) ≡ 12

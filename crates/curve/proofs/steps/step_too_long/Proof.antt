@@ -2,33 +2,21 @@
 use borrow.Author.Needs.{needs}
 use borrow.Author.Count.{below-more}
 use mathlib.Core.Path.{_≡_, refl, sym, _∙_, ap}
-use mathlib.Core.Bool.{true, false}
-use Prim.Native.Nat.{ℕ, suc, _+_, _-_, _≤_, _<_}
+use mathlib.Core.Bool.{false}
+use Prim.Native.Nat.{ℕ, _-_, _≤_, _<_}
 use native.Mathlib.Numerals.{add-one}
 use native.Mathlib.Omega.{arith}
 use lib.Dec.{lit<}
-use lib.IntN.{ℤ, pos}
-use mir.Syntax.{w64}
-use mir.Val.{toZ}
-use Rattle.cubic.specs.declared.differences.Cubic.{Cubic}
-use Rattle.cubic.specs.Axis.{longOf}
-use Rattle.cubic.specs.Differences.{delta, differencesAt, nextOf}
+use Rattle.cubic.specs.Differences.{differencesAt, nextOf}
 use Rattle.cubic.proofs.Closed.{samples-cubic}
 use Rattle.cubic.proofs.Next.{next-differences}
-use Rattle.cubic.proofs.Fits.{read, held}
+use Rattle.cubic.proofs.Fits.{held}
 use Rattle.curve.specs.declared.Curve.{Curve}
-use Rattle.curve.specs.Curve.{curveOf}
-use Rattle.curve.specs.Machine.{InLimits, doubledAlong}
+use Rattle.curve.specs.Machine.{doubledAlong}
 use Rattle.curve.proofs.Along.{scale-held, along-room}
 use Rattle.curve.proofs.Search.{longAt, found, nowhere}
 use Rattle.curve.proofs.steps.step_too_long.Statement.{statement}
 use Rattle.curve.proofs.steps.step_too_long.Tie as tie
-use Rattle.curve.proofs.steps.step_too_long.Reads as reads
-use Rattle.curve.proofs.steps.step_too_long.Lts as lts
-use Rattle.cubic.proofs.differences.Cubic.next.Reads as next-reads
-use Rattle.cubic.proofs.long.is_long.Reads as is-long-reads
-use Rattle.curve.proofs.steps.cubic_along.Reads as cubic-along-reads
-use Rattle.scan.proofs.number.cubed.Reads as cubed-reads
 
 abbrev Inv-loop : tie.InvT-loop
 Inv-loop curve scale last found₀ a c₀ i₀ found c i =

@@ -1,9 +1,9 @@
 -- `mark_rows` meets its contract: after row j the grid has the marks of the rows 0 to j.
 use borrow.Author.Needs.{needs}
 use denote.Ref.{now}
-use mathlib.Core.Path.{_≡_, refl, sym, _∙_, ap}
+use mathlib.Core.Path.{_≡_, sym, _∙_, ap}
 use mathlib.Core.List.{List}
-use Prim.Native.Nat.{ℕ, suc, _+_, _*_, _-_, _≤_, _<_, zero-le}
+use Prim.Native.Nat.{ℕ, suc, _-_, _≤_, _<_, zero-le}
 use native.Mathlib.Numerals.{add-one}
 use native.Mathlib.Omega.{arith}
 use lib.ListN.{length}
@@ -27,8 +27,6 @@ use Rattle.patch.proofs.Walked.{OnRow, lines-start, places, row-at, fir
 use Rattle.patch.proofs.Walked.{drawn-rows, room-for-next, next-is, room-for-row, row-marks}
 use Rattle.patch.proofs.rows.mark_rows.Statement.{statement}
 use Rattle.patch.proofs.rows.mark_rows.Tie as tie
-use Rattle.patch.proofs.rows.mark_rows.Reads as reads
-use Rattle.patch.proofs.rows.mark_rows.Lts as lts
 
 -- The rows so far, where grid₀ has the marks of row 0.
 record SoFar (S : ℕ) (p : Patch) (grid₀ grid : List ℕ) (lines : Lines) (j : ℕ) : Type 0 where

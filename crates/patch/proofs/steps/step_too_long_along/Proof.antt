@@ -1,17 +1,16 @@
 -- `step_too_long_along` meets its contract: no step that was passed is too long, and the first that is ends the search.
-use borrow.Author.Needs.{needs}
 use borrow.Author.Count.{below-more}
 use mathlib.Core.Path.{_≡_, refl, sym, _∙_, ap}
 use mathlib.Core.Logic.{⊎-elim}
-use mathlib.Core.Bool.{Bool, true, false}
-use Prim.Native.Nat.{ℕ, suc, _+_, _*_, _-_, _≤_, _<_, zero-le}
+use mathlib.Core.Bool.{Bool, false}
+use Prim.Native.Nat.{ℕ, suc, _*_, _-_, _≤_, _<_, zero-le}
 use native.Mathlib.Numerals.{add-one}
 use native.Mathlib.Omega.{arith}
 use lib.Dec.{lit<, lit≤}
 use lib.IntN.{ℤ, pos, _-ℤ_, _*ℤ_}
 use Rattle.integers.proofs.Magnitude.{within-weaken}
 use Rattle.cubic.specs.declared.differences.Cubic.{Cubic}
-use Rattle.cubic.specs.Differences.{delta, differencesAt, nextOf, headsOf, slopesOf}
+use Rattle.cubic.specs.Differences.{differencesAt, nextOf}
 use Rattle.cubic.specs.Axis.{longOf}
 use Rattle.cubic.proofs.Fits.{Holds, read, held}
 use Rattle.patch.specs.declared.Patch.{Patch}
@@ -22,8 +21,6 @@ use Rattle.patch.proofs.Along.{slope-next, scale-fits, scale-held}
 use Rattle.patch.proofs.Search.{found-t, found-u, nowhere}
 use Rattle.patch.proofs.steps.step_too_long_along.Statement.{statement}
 use Rattle.patch.proofs.steps.step_too_long_along.Tie as tie
-use Rattle.patch.proofs.steps.step_too_long_along.Reads as reads
-use Rattle.patch.proofs.steps.step_too_long_along.Lts as lts
 
 -- In row j, at sample i: no step before it is too long.
 record InRow (p : Patch) (a j : ℕ) (found : Bool) (row slope : Cubic) (i : ℕ) : Type 0 where

@@ -68,29 +68,38 @@ start-requires c κs =
 
 start-requires-2 : tie.Need-start-requires-2
 start-requires-2 c κs =
-    let k = c .before .before .before .before .before .before .before .before .before in
+    let b = c .before .before .before .before .before in
+    let k = b .before .before .before .before in
     rw (steps k, column0 k .d1, column1 k .d1, column2 k .d1, column3 k .d1)
     (across-start (s k .pre .0) (s k .pre .1) 1 (lit< tt))
 
 start-requires-3 : tie.Need-start-requires-3
 start-requires-3 c κs =
-    let k = c .before .before .before .before .before .before .before .before .before .before .before .before .before .before in
+    let b = c .before .before .before .before .before in
+    let d = b .before .before .before .before .before in
+    let k = d .before .before .before .before in
     rw (steps k, column0 k .d2, column1 k .d2, column2 k .d2, column3 k .d2)
     (across-start (s k .pre .0) (s k .pre .1) 2 (lit< tt))
 
 start-requires-4 : tie.Need-start-requires-4
 start-requires-4 c κs =
-    let k = c .before .before .before .before .before .before .before .before .before .before .before .before .before .before .before .before .before .before .before in
+    let b = c .before .before .before .before .before in
+    let d = b .before .before .before .before .before in
+    let e = d .before .before .before .before .before in
+    let k = e .before .before .before .before in
     rw (steps k, column0 k .d3, column1 k .d3, column2 k .d3, column3 k .d3)
     (across-start (s k .pre .0) (s k .pre .1) 3 (lit< tt))
 
 returns : tie.Need-returns
 returns c =
-    let k = c .before .before .before .before .before .before .before .before .before .before .before .before .before .before .before .before .before .before .before .before in
+    let b = c .before .before .before .before .before in
+    let d = b .before .before .before .before .before in
+    let e = d .before .before .before .before .before in
+    let k = e .before .before .before .before .before in
     rw (
-      rw (steps k, column0 k .value, column1 k .value, column2 k .value, column3 k .value) at (c .before .before .before .before .before .before .before .before .before .before .before .before .before .before .before .start .ensures),
-      rw (steps k, column0 k .d1, column1 k .d1, column2 k .d1, column3 k .d1) at (c .before .before .before .before .before .before .before .before .before .before .start2 .ensures),
-      rw (steps k, column0 k .d2, column1 k .d2, column2 k .d2, column3 k .d2) at (c .before .before .before .before .before .start3 .ensures),
+      rw (steps k, column0 k .value, column1 k .value, column2 k .value, column3 k .value) at (e .start .ensures),
+      rw (steps k, column0 k .d1, column1 k .d1, column2 k .d1, column3 k .d1) at (d .start2 .ensures),
+      rw (steps k, column0 k .d2, column1 k .d2, column2 k .d2, column3 k .d2) at (b .start3 .ensures),
       rw (steps k, column0 k .d3, column1 k .d3, column2 k .d3, column3 k .d3) at (c .start4 .ensures),
     )
 

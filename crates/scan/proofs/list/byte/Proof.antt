@@ -1,5 +1,5 @@
 -- `byte` meets its contract: the cast loses nothing.
-use mathlib.Core.Path.{_≡_, _∙_}
+use mathlib.Core.Path.{_≡_}
 use borrow.Author.Needs.{needs}
 use lib.Dec.{T}
 use lib.IntN.{ℤ, natAbs}
@@ -10,8 +10,6 @@ use mir.Facts.{toZ-ofZ}
 use Rattle.scan.specs.Walker.{IsByte}
 use Rattle.scan.proofs.list.byte.Statement.{statement}
 use Rattle.scan.proofs.list.byte.Tie as tie
-use Rattle.scan.proofs.list.byte.Reads as reads
-use Rattle.scan.proofs.list.byte.Lts as lts
 
 cast : (z r : ℤ) → r ≡ z → IsByte z → T (nonNeg r) × Fits w8 (natAbs r)
 cast z r e p = rw (e, p .is) (tt, record { fits = p .small })

@@ -1,13 +1,13 @@
 -- `list_row` meets its contract: after i steps the list begins with the bytes of the first i + 1 walkers' cells.
 use borrow.Author.Needs.{needs}
 use denote.Ref.{now}
-use mathlib.Core.Path.{_≡_, refl, sym, ap, ap₂, _∙_}
+use mathlib.Core.Path.{_≡_, refl, ap, _∙_}
 use mathlib.Core.List.{List, [], _∷_, _++_, map, map-append, append-assoc}
-use Prim.Native.Nat.{ℕ, suc, _≤_, _<_, _-_, _+_, _*_, zero-le}
+use Prim.Native.Nat.{ℕ, suc, _≤_, _<_, _-_, _+_, _*_}
 use native.Mathlib.Numerals.{add-one}
 use native.Mathlib.Omega.{arith}
 use lib.IntN.{ℤ}
-use lib.ListN.{length, take, drop, length-append, length-drop, length-map}
+use lib.ListN.{length, drop, length-append, length-drop, length-map}
 use lib.Seq.{sets, sets-eq, length-sets, take-at, drop-append-add, drop-drop}
 use mir.Syntax.{w64}
 use mir.Val.{toZ}
@@ -21,10 +21,6 @@ use Rattle.scan.specs.Walker.{stepAll, after, cellOfWalker, coordinates,
 use Rattle.scan.proofs.Row.{AfterSteps, no-steps, holds-now, room-now, step-more, length-walkers}
 use Rattle.scan.proofs.list.list_row.Statement.{statement}
 use Rattle.scan.proofs.list.list_row.Tie as tie
-use Rattle.scan.proofs.list.list_row.Reads as reads
-use Rattle.scan.proofs.list.list_row.Lts as lts
-use Rattle.scan.proofs.list.put_cell.Reads as put-cell-reads
-use Rattle.scan.proofs.walker.Walker.step.Reads as step-reads
 
 -- One cell more.
 bytes-more : (cs : List Cell) (c : Cell) → bytes (cs ++ c ∷ []) ≡ bytes cs ++ coordinates c

@@ -1,9 +1,9 @@
 -- `mark_row` meets its contract: after i steps the grid has the marks of the first i + 1 walkers' places.
 use borrow.Author.Needs.{needs}
 use denote.Ref.{now}
-use mathlib.Core.Path.{_≡_, refl, sym, ap, _∙_}
-use mathlib.Core.List.{List, [], _∷_, _++_, map, map-append}
-use Prim.Native.Nat.{ℕ, suc, _≤_, _<_, _-_, _+_, zero-le}
+use mathlib.Core.Path.{_≡_, refl, sym}
+use mathlib.Core.List.{List, map, map-append}
+use Prim.Native.Nat.{ℕ, suc, _<_, _-_}
 use native.Mathlib.Numerals.{add-one}
 use native.Mathlib.Omega.{arith}
 use lib.IntN.{ℤ}
@@ -15,7 +15,7 @@ use Rattle.drawing.specs.Drawing.{marked}
 use Rattle.drawing.proofs.Marked.{marked-append}
 use Rattle.scan.specs.declared.walker.Walker.{Walker}
 use Rattle.scan.specs.declared.walker.Strides.{Strides}
-use Rattle.scan.specs.Walker.{stepAll, after, HasPlace, placeOf, walkers, OnGrid}
+use Rattle.scan.specs.Walker.{stepAll, HasPlace, placeOf, walkers, OnGrid}
 use Rattle.scan.proofs.Row.{AfterSteps, no-steps, holds-now, room-now, step-more}
 use Rattle.scan.proofs.mark.mark_row.Statement.{statement}
 use Rattle.scan.proofs.mark.mark_row.Tie as tie

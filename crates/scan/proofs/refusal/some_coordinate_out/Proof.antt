@@ -2,7 +2,7 @@
 use borrow.Author.Needs.{needs}
 use borrow.Author.Count.{below-more}
 use mathlib.Core.Logic.{⊎-elim}
-use mathlib.Core.Path.{_≡_, sym}
+use mathlib.Core.Path.{sym}
 use Prim.Native.Nat.{ℕ, _≤_, _<_, _-_}
 use native.Mathlib.Omega.{arith}
 use lib.Dec.{T}
@@ -14,9 +14,6 @@ use Rattle.drawing.specs.Refusals.{coordinateOut}
 use Rattle.drawing.proofs.Accepted.{coordinate-in}
 use Rattle.scan.proofs.refusal.some_coordinate_out.Statement.{statement}
 use Rattle.scan.proofs.refusal.some_coordinate_out.Tie as tie
-use Rattle.scan.proofs.refusal.some_coordinate_out.Reads as reads
-use Rattle.scan.proofs.refusal.some_coordinate_out.Lts as lts
-use Rattle.scan.proofs.refusal.wide.Reads as wide-reads
 
 -- A coordinate that is not below the side is out.
 is-out : (S c : ℕ) → S ≤ c → T (coordinateOut S c)

@@ -1,5 +1,5 @@
 -- `Walker::place` meets its contract: the sum of three natural numbers below 2^60 fits, and is not negative.
-use mathlib.Core.Path.{_≡_, refl, ap, _∙_}
+use mathlib.Core.Path.{_≡_, ap}
 use Prim.Native.Nat.{_+_, _^_}
 use native.Mathlib.Nat.{le-of-lt}
 use native.Mathlib.Omega.{arith}
