@@ -8,11 +8,11 @@ import random
 import sys
 from fractions import Fraction
 from itertools import product
-from pathlib import Path
 
-from model import INFINITY, MINUS_ZERO, Grey, Rgb, decode, encode, half_way, swatch_cell
+from model import INFINITY, MINUS_ZERO, Grey, Rgb, encode, half_way, swatch_cell
+from stored import answer_record, case_record, malformed, store
 
-FOLDER = Path(__file__).resolve().parent.parent / "crates" / "swatch_cases"
+NUMBERS, ANSWERS = 7, 3  # in a case, in an answer
 
 ONE, HALF, QUARTER = 0x3F800000, 0x3F000000, 0x3E800000
 NAN = 0x7FC00000
@@ -109,56 +109,35 @@ def pairs(dice):
         yield color(dice, 0.05), Grey(channel(dice))
 
 
-def case_record(letter, numbers):
-    """A case: a letter, seven numbers of eight hexadecimal digits with a blank between two, and a line feed."""
-    padded = (*numbers, *[0] * (7 - len(numbers)))
-    return letter + " ".join(f"{n:08x}" for n in padded) + "\n"
-
-
-def answer_record(letter, numbers, form):
-    """An answer: a letter, three numbers of eight digits, each after a blank, and a line feed."""
-    padded = (*numbers, *[0] * (3 - len(numbers)))
-    return letter + "".join(f" {n:08{form}}" for n in padded) + "\n"
+def answer(refusal, letter, numbers, form):
+    """The answer's record: the refusal, or the numbers under the letter."""
+    if refusal is not None:
+        return answer_record("R", (refusal,), "d", ANSWERS)
+    return answer_record(letter, numbers, form, ANSWERS)
 
 
 def cell_case(side, swatch):
     """The records of a call that turns a swatch into a cell."""
     refusal, cell = swatch_cell(side, swatch)
-    case = case_record("G" if isinstance(swatch, Grey) else "C", (side, *swatch))
-    return case, answer_record("C", cell, "d") if refusal is None else answer_record("R", (refusal,), "d")
+    case = case_record("G" if isinstance(swatch, Grey) else "C", (side, *swatch), NUMBERS)
+    return case, answer(refusal, "C", cell, "d")
 
 
 def pair_case(first, second):
     """The records of a call that mixes two swatches."""
     refusal, mixed = half_way(first, second)
     letter = {(Rgb, Rgb): "H", (Rgb, Grey): "I", (Grey, Rgb): "J", (Grey, Grey): "K"}[type(first), type(second)]
-    case = case_record(letter, (*first, *second))
-    return case, answer_record("H", mixed, "x") if refusal is None else answer_record("R", (refusal,), "d")
-
-
-def files():
-    """What stdin and stdout hold."""
-    dice = random.Random(1)
-    cells = [*document_samples(), *boundaries(), *edges(), *random_cells(dice)]
-    records = [cell_case(*cell) for cell in cells] + [pair_case(*pair) for pair in pairs(dice)]
-    malformed = ("Z" + records[0][0][1:], records[0][0].replace(" ", "-", 1), records[0][0].replace("0", "O", 1))
-    records += [(case, answer_record("B", (), "d")) for case in malformed]
-    cases, answers = zip(*records)
-    return {"stdin": "".join(cases), "stdout": "".join(answers) + "END\n"}
+    case = case_record(letter, (*first, *second), NUMBERS)
+    return case, answer(refusal, "H", mixed, "x")
 
 
 def main():
     """Writes or checks both files; the exit status."""
-    wrong = 0
-    for name, text in files().items():
-        path = FOLDER / name
-        if "--check" in sys.argv[1:]:
-            if not path.exists() or path.read_bytes() != text.encode():
-                print(f"{path}: not what the model gives")
-                wrong = 1
-        else:
-            path.write_bytes(text.encode())
-    return wrong
+    dice = random.Random(1)
+    cells = [*document_samples(), *boundaries(), *edges(), *random_cells(dice)]
+    records = [cell_case(*cell) for cell in cells] + [pair_case(*pair) for pair in pairs(dice)]
+    records += [(case, answer_record("B", (), "d", ANSWERS)) for case in malformed(records[0][0])]
+    return store("swatch_cases", records)
 
 
 if __name__ == "__main__":

@@ -14,40 +14,30 @@
 //     H red green blue                      the half-way swatch (bit patterns)
 //     B                                     no such case
 //
-// Once the input has ended and all of it is answered, END is written, so what a failed read or write cuts short shows.
-mod record;
-
+// A case has seven numbers, hence 64 bytes, and an answer three, hence 29 bytes.
 ghost use mathlib.Core.Path.{_≡_};
 ghost use Prim.Native.Nat.{_*_, _≤_};
 ghost use lib.ListN.{length};
 ghost use lib.Ieee.{binary32, ofBits, toBits};
-use record::Answer;
+use cases::block::Progress;
 use swatch::CellAnswer;
 use swatch::HalfWayAnswer;
 use swatch::Rgb;
 use swatch::Swatch;
 
-// Whether there may be more input, it has ended, or reading or writing failed.
-enum Progress {
-    More,
-    Ended,
-    Failed,
+// An answer's letter and numbers, which are written in hexadecimal or in decimal digits.
+struct Answer {
+    letter: u8,
+    hexadecimal: bool,
+    numbers: [u32; 3],
 }
 
 // A loop has to end, and nothing says that the input does: it counts down from a number that no run uses up.
 fn main() {
     let mut turns = u64::MAX;
     while turns > 0 {
-        match answer_block() {
-            Progress::More => {}
-            Progress::Ended => {
-                io::write_all(libc::STDOUT_FILENO, b"END\n");
-                return;
-            }
-            Progress::Failed => {
-                io::write_all(libc::STDERR_FILENO, b"swatch_cases: stopped\n");
-                return;
-            }
+        if !cases::block::goes_on(answer_block()) {
+            return;
         }
         turns -= 1;
     }
@@ -55,41 +45,32 @@ fn main() {
 
 // Answers the next 1,024 cases, or as many as are left.
 fn answer_block() -> Progress {
-    let mut cases = [0u8; 65536];
+    let mut records = [0u8; 65536];
     let mut answers = [0u8; 29696];
-    answer_input(&mut cases, &mut answers)
+    answer_input(&mut records, &mut answers)
 }
 
 // Reads cases until their buffer is full or the input ends, and writes the answers.
-fn answer_input(cases: &mut [u8], answers: &mut [u8]) -> Progress
-    requires { ⌜ (length (now cases) ≡ 65536) × (length (now answers) ≡ 29696) ⌝ }
+fn answer_input(records: &mut [u8], answers: &mut [u8]) -> Progress
+    requires { ⌜ (length (now records) ≡ 65536) × (length (now answers) ≡ 29696) ⌝ }
 {
-    let input = record::fill(libc::STDIN_FILENO, cases);
-    let count = input.count / 64;
-    if input.failed || input.count % 64 != 0 {
-        return Progress::Failed;
-    }
-    answer_cases(cases, count, answers);
-    if !io::write_all(libc::STDOUT_FILENO, &answers[..count * 29]) {
-        return Progress::Failed;
-    }
-    if count < 1024 {
-        Progress::Ended
-    } else {
-        Progress::More
-    }
+    let block = cases::block::read_records(records, 64);
+    let then = block.then;
+    answer_cases(records, block.count, answers);
+    cases::block::write_answers(answers, block.count * 29, then)
 }
 
 // Answers each case with the record of the same number.
-fn answer_cases(cases: &[u8], count: usize, answers: &mut [u8])
-    requires { ⌜ count * 64 ≤ length (now cases) ⌝ }
+fn answer_cases(records: &[u8], count: usize, answers: &mut [u8])
+    requires { ⌜ count * 64 ≤ length (now records) ⌝ }
     requires { ⌜ count * 29 ≤ length (now answers) ⌝ }
     ensures { λ _. ⌜ length (now (answers .exit)) ≡ length (now (answers .entry)) ⌝ }
 {
     let mut k = 0;
     while k < count {
-        let answer = answer_case(&cases[k * 64..k * 64 + 64]);
-        record::put_answer(answer, answers, k * 29);
+        let answer = answer_case(cases::record::nth(records, k, 64));
+        let numbers = answer.numbers;
+        cases::answer::put_answer(answer.letter, answer.hexadecimal, &numbers, answers, k * 29);
         k += 1;
     }
 }
@@ -98,15 +79,15 @@ fn answer_cases(cases: &[u8], count: usize, answers: &mut [u8])
 fn answer_case(case: &[u8]) -> Answer
     requires { ⌜ length (now case) ≡ 64 ⌝ }
 {
-    if !record::is_case(case) {
-        return record::no_answer();
+    if !cases::record::is_case(case) {
+        return no_answer();
     }
     let letter = case[0];
     if letter == b'C' {
-        return cell_answer(swatch::to_cell(record::number(case, 0), color(case, 1)));
+        return cell_answer(swatch::to_cell(cases::record::number(case, 0), color(case, 1)));
     }
     if letter == b'G' {
-        return cell_answer(swatch::to_cell(record::number(case, 0), grey(case, 1)));
+        return cell_answer(swatch::to_cell(cases::record::number(case, 0), grey(case, 1)));
     }
     if letter == b'H' {
         return half_way_answer(swatch::half_way(color(case, 0), color(case, 3)));
@@ -120,7 +101,7 @@ fn answer_case(case: &[u8]) -> Answer
     if letter == b'K' {
         return half_way_answer(swatch::half_way(grey(case, 0), grey(case, 1)));
     }
-    record::no_answer()
+    no_answer()
 }
 
 // The swatch of three channels from the case's number k on.
@@ -129,9 +110,9 @@ fn color(case: &[u8], k: usize) -> Swatch
     requires { ⌜ k ≤ 4 ⌝ }
 {
     Swatch::Color(Rgb {
-        red: channel(record::number(case, k)),
-        green: channel(record::number(case, k + 1)),
-        blue: channel(record::number(case, k + 2)),
+        red: channel(cases::record::number(case, k)),
+        green: channel(cases::record::number(case, k + 1)),
+        blue: channel(cases::record::number(case, k + 2)),
     })
 }
 
@@ -140,7 +121,16 @@ fn grey(case: &[u8], k: usize) -> Swatch
     requires { ⌜ length (now case) ≡ 64 ⌝ }
     requires { ⌜ k ≤ 6 ⌝ }
 {
-    Swatch::Grey(channel(record::number(case, k)))
+    Swatch::Grey(channel(cases::record::number(case, k)))
+}
+
+// The answer to a record that is no case.
+fn no_answer() -> Answer {
+    Answer {
+        letter: b'B',
+        hexadecimal: false,
+        numbers: [0, 0, 0],
+    }
 }
 
 fn cell_answer(answer: CellAnswer) -> Answer {

@@ -3,45 +3,33 @@ use mathlib.Core.Path.{_≡_}
 use Prim.Native.Nat.{_-_, _≤_}
 use native.Mathlib.Omega.{arith}
 use borrow.Author.Needs.{needs}
-use lib.ListN.{length, length-take, length-drop}
+use lib.ListN.{length}
 use Rattle.swatch_cases.proofs.answer_cases.Statement.{statement}
 use Rattle.swatch_cases.proofs.answer_cases.Tie as tie
 
 abbrev Inv-loop : tie.InvT-loop
-Inv-loop cases count answers₀ k₀ answers k = (length answers ≡ length answers₀) × (k ≤ count)
+Inv-loop records count answers₀ k₀ answers k = (length answers ≡ length answers₀) × (k ≤ count)
 
 abbrev μ-loop : tie.MeasureT-loop
-μ-loop cases count answers₀ k₀ answers k = count - k
+μ-loop records count answers₀ k₀ answers k = count - k
 
 loop-holds : tie.Need-loop-holds Inv-loop μ-loop
 loop-holds c = omega arith
 
-mul-answer-case : tie.Need-mul-answer-case Inv-loop μ-loop
-mul-answer-case c = omega arith
-
-mul-answer-case-2 : tie.Need-mul-answer-case-2 Inv-loop μ-loop
-mul-answer-case-2 c = omega arith
-
-add-answer-case : tie.Need-add-answer-case Inv-loop μ-loop
-add-answer-case c = omega arith
-
-sub-answer-case : tie.Need-sub-answer-case Inv-loop μ-loop
-sub-answer-case c = omega arith
-
-part-answer-case-start : tie.Need-part-answer-case-start Inv-loop μ-loop
-part-answer-case-start c = omega arith
-
-part-answer-case-end : tie.Need-part-answer-case-end Inv-loop μ-loop
-part-answer-case-end c = omega arith
+nth-requires : tie.Need-nth-requires Inv-loop μ-loop
+nth-requires c κs = omega arith
 
 answer-case-requires : tie.Need-answer-case-requires Inv-loop μ-loop
-answer-case-requires c κs = simp (length-take, length-drop) (omega arith)
+answer-case-requires c κs = search needs
+
+slice-aggregate-put-answer : tie.Need-slice-aggregate-put-answer Inv-loop μ-loop
+slice-aggregate-put-answer c = search needs
 
 mul-put-answer : tie.Need-mul-put-answer Inv-loop μ-loop
 mul-put-answer c = omega arith
 
 put-answer-requires : tie.Need-put-answer-requires Inv-loop μ-loop
-put-answer-requires c κs = omega arith
+put-answer-requires c κs = omega (arith, slice-aggregate-put-answer (c .before))
 
 add-k : tie.Need-add-k Inv-loop μ-loop
 add-k c = omega arith
@@ -65,13 +53,9 @@ answer-cases-spec =
     Inv-loop
     μ-loop
     loop-holds
-    mul-answer-case
-    mul-answer-case-2
-    add-answer-case
-    sub-answer-case
-    part-answer-case-start
-    part-answer-case-end
+    nth-requires
     answer-case-requires
+    slice-aggregate-put-answer
     mul-put-answer
     put-answer-requires
     add-k

@@ -1,0 +1,7 @@
+// What the programs that run stored cases share.
+//
+// Cases and answers are records of text, so that they can be read and compared, and of one width in a program, so that
+// the record of a number is found without a search.
+pub mod answer;
+pub mod block;
+pub mod record;

@@ -1,0 +1,76 @@
+// The curve or the patch of a case, and what a call answered.
+ghost use mathlib.Core.Path.{_≡_};
+ghost use Prim.Native.Nat.{_≤_};
+ghost use lib.ListN.{length};
+use crate::answer::Answer;
+use crate::answer::holding;
+use cases::record::number;
+use curve::Curve;
+use patch::Patch;
+use scan::answer::Verdict;
+
+// What a drawing or a listing answered, and what the bytes lent to it hold.
+pub(crate) fn called(answer: scan::answer::Answer, lent: &[u8]) -> Answer {
+    match answer {
+        scan::answer::Answer::Samples(n) => holding(b'A', n, lent),
+        scan::answer::Answer::Refused(n) => holding(b'R', n, lent),
+    }
+}
+
+// What a check answered, with nothing lent.
+pub(crate) fn checked(verdict: Verdict) -> Answer {
+    match verdict {
+        Verdict::Accepted => holding(b'A', 0, b""),
+        Verdict::Refused(n) => holding(b'R', n, b""),
+    }
+}
+
+// The case's curve.
+pub(crate) fn curve_of(case: &[u8]) -> Curve
+    requires { ⌜ length (now case) ≡ 190 ⌝ }
+{
+    let mut points = [0u8; 12];
+    put_points(case, &mut points);
+    Curve {
+        points,
+        steps: number(case, 1),
+        mark: low_byte(number(case, 2)),
+    }
+}
+
+// The case's patch.
+pub(crate) fn patch_of(case: &[u8]) -> Patch
+    requires { ⌜ length (now case) ≡ 190 ⌝ }
+{
+    let mut points = [0u8; 48];
+    put_points(case, &mut points);
+    Patch {
+        points,
+        n: number(case, 1),
+        m: number(case, 4),
+        mark: low_byte(number(case, 2)),
+    }
+}
+
+// Reads as many coordinates as there is room for, x y z of one point after the other.
+fn put_points(case: &[u8], points: &mut [u8])
+    requires { ⌜ length (now case) ≡ 190 ⌝ }
+    requires { ⌜ length (now points) ≤ 48 ⌝ }
+    ensures { λ _. ⌜ length (now (points .exit)) ≡ length (now (points .entry)) ⌝ }
+{
+    let mut i = 0;
+    while i < points.len() {
+        let point = number(case, 5 + i / 3);
+        points[i] = match i % 3 {
+            0 => low_byte(point / 65536),
+            1 => low_byte(point / 256),
+            _ => low_byte(point),
+        };
+        i += 1;
+    }
+}
+
+// The last eight bits of a number.
+pub(crate) fn low_byte(n: u32) -> u8 {
+    (n % 256) as u8
+}

@@ -1,0 +1,124 @@
+// Runs stored cases of curves and patches: reads case records from standard input and writes an answer record for each.
+//
+//     F first step 0 length                    fills the lent bytes
+//     S place stride                           shows 16 bytes of the buffer
+//     D side steps mark length 0 points        draws a curve, the lent bytes as its grid
+//     L side steps mark length 0 points        lists a curve, the lent bytes as its list
+//     C side steps mark 0 0 points             checks a curve
+//     P side n mark length m points            draws a patch, the lent bytes as its grid
+//     Q side n mark 0 m points                 checks a patch
+//
+// There is one buffer of 262144 bytes, which keeps its bytes from case to case; lent are the first of them, as many as
+// the length says. Filled byte i is first + step × i, modulo 256. Shown byte i is at place + stride × i, and 0 past the
+// end. Each point is one number, 00xxyyzz in hexadecimal digits; they begin at number 5, and there is room for 16.
+// Numbers that a case does not use are 0. The answers are
+//
+//     A samples marked first second            accepted; the samples of a check are 0
+//     R number marked first second             refused
+//     F 0 marked first second                  filled
+//     S bytes bytes bytes bytes                shown (hexadecimal)
+//     B                                        no such case
+//
+// where marked, first and second say what the lent bytes hold afterwards (`answer::holding`); a check is lent none.
+//
+// A case has 21 numbers, hence 190 bytes, and an answer four, hence 38 bytes.
+mod answer;
+mod bytes;
+mod calls;
+
+ghost use mathlib.Core.Path.{_≡_};
+ghost use Prim.Native.Nat.{_*_, _≤_};
+ghost use lib.ListN.{length};
+use answer::Answer;
+use calls::called;
+use calls::checked;
+use calls::curve_of;
+use calls::patch_of;
+use cases::block::Progress;
+use cases::record::number;
+
+// A loop has to end, and nothing says that the input does: it counts down from a number that no run uses up.
+fn main() {
+    let mut buffer = [0u8; 262144];
+    let mut turns = u64::MAX;
+    while turns > 0 {
+        if !cases::block::goes_on(answer_block(&mut buffer)) {
+            return;
+        }
+        turns -= 1;
+    }
+}
+
+// Answers the next 1,024 cases, or as many as are left.
+fn answer_block(buffer: &mut [u8]) -> Progress {
+    let mut records = [0u8; 194560];
+    let mut answers = [0u8; 38912];
+    answer_input(&mut records, &mut answers, buffer)
+}
+
+// Reads cases until their buffer is full or the input ends, and writes the answers.
+fn answer_input(records: &mut [u8], answers: &mut [u8], buffer: &mut [u8]) -> Progress
+    requires { ⌜ (length (now records) ≡ 194560) × (length (now answers) ≡ 38912) ⌝ }
+{
+    let block = cases::block::read_records(records, 190);
+    let then = block.then;
+    answer_cases(records, block.count, answers, buffer);
+    cases::block::write_answers(answers, block.count * 38, then)
+}
+
+// Answers each case with the record of the same number.
+fn answer_cases(records: &[u8], count: usize, answers: &mut [u8], buffer: &mut [u8])
+    requires { ⌜ count * 190 ≤ length (now records) ⌝ }
+    requires { ⌜ count * 38 ≤ length (now answers) ⌝ }
+    ensures { λ _. ⌜ length (now (answers .exit)) ≡ length (now (answers .entry)) ⌝ }
+{
+    let mut k = 0;
+    while k < count {
+        let answer = answer_case(cases::record::nth(records, k, 190), buffer);
+        let numbers = answer.numbers;
+        cases::answer::put_answer(answer.letter, answer.hexadecimal, &numbers, answers, k * 38);
+        k += 1;
+    }
+}
+
+// The answer to one case.
+fn answer_case(case: &[u8], buffer: &mut [u8]) -> Answer
+    requires { ⌜ length (now case) ≡ 190 ⌝ }
+{
+    if !cases::record::is_case(case) {
+        return answer::none();
+    }
+    match case[0] {
+        b'F' | b'D' | b'L' | b'P' => answer_lent(case, buffer),
+        b'S' => bytes::show(case, buffer),
+        b'C' => checked(curve::check_curve(number(case, 0), curve_of(case))),
+        b'Q' => checked(patch::check_patch(number(case, 0), patch_of(case))),
+        _ => answer::none(),
+    }
+}
+
+// The answer to a case that is lent bytes of the buffer.
+fn answer_lent(case: &[u8], buffer: &mut [u8]) -> Answer
+    requires { ⌜ length (now case) ≡ 190 ⌝ }
+{
+    let count = number(case, 3) as usize;
+    if buffer.len() < count {
+        return answer::none();
+    }
+    let lent = &mut buffer[..count];
+    match case[0] {
+        b'D' => called(
+            curve::draw_curve(number(case, 0), curve_of(case), lent),
+            lent,
+        ),
+        b'L' => called(
+            curve::list_curve(number(case, 0), curve_of(case), lent),
+            lent,
+        ),
+        b'P' => called(
+            patch::draw_patch(number(case, 0), patch_of(case), lent),
+            lent,
+        ),
+        _ => bytes::fill(case, lent),
+    }
+}

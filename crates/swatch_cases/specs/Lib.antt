@@ -1,2 +1,0 @@
--- `Record`: what a read leaves of a buffer.
-pub mod Record

@@ -1,0 +1,350 @@
+"""Writes the stored cases of curves and patches and their expected answers, by the separate model of document 01.
+
+`python3 tests/drawing_cases.py` writes crates/drawing_cases/stdin and stdout; with `--check` it writes nothing and exits
+with 1 if they are not what it would write; with `--count` it prints how many cases of each letter got each answer.  The
+forms of both are described in crates/drawing_cases/src.
+"""
+
+import random
+import sys
+from collections import Counter
+from itertools import combinations, permutations, product
+
+from model import K1_TO_K11, Answer, curve, draw, drawing_refusal, list_curve, on_axis, patch
+from stored import answer_record, case_record, malformed, store
+
+NUMBERS, ANSWERS = 21, 4  # in a case, in an answer
+BUFFER = 262144
+PRIMES = 99999989, 99999959
+LARGEST = 4294967295
+MARK = 200
+
+
+def check(side, record, lent):
+    """A check: the numbers of a drawing whose grid and mark are right."""
+    refusal = drawing_refusal(side, record._replace(mark=MARK), side**3)
+    return Answer(refusal, 0 if refusal is None else None, lent)
+
+
+CALLS = {"D": draw, "L": list_curve, "C": check, "P": draw, "Q": check}
+ON_CURVES, ON_PATCHES = "DLC", "PQ"
+
+
+def right_length(letter, side, n):
+    """The bytes that a call asks for: a grid, a list or nothing."""
+    return {"D": side**3, "L": 3 * (n + 1), "C": 0, "P": side**3, "Q": 0}[letter]
+
+
+def holding(lent):
+    """What bytes hold: how many are not 0, and length and bytes as one number of base 256, by each prime."""
+    number = int.from_bytes(len(lent).to_bytes(4, "big") + lent, "big")
+    return len(lent) - lent.count(0), *(number % prime for prime in PRIMES)
+
+
+class Cases:
+    """The cases and their answers so far, and what the program's buffer then holds."""
+
+    def __init__(self):
+        self.buffer = bytearray(BUFFER)
+        self.records = []
+        self.answered = Counter()
+
+    def add(self, letter, numbers, answer, kind, form="d"):
+        """One case with its answer."""
+        self.records.append((case_record(letter, numbers, NUMBERS), answer_record(*answer, form, ANSWERS)))
+        self.answered[letter, kind] += 1
+
+    def fill(self, length, first=0, step=0):
+        """Byte i becomes first + step × i, modulo 256."""
+        period = bytes((first + step * i) % 256 for i in range(256))
+        self.buffer[:length] = (period * (length // 256 + 1))[:length]
+        self.add("F", (first, step, 0, length), ("F", (0, *holding(self.buffer[:length]))), "filled")
+
+    def show(self, place=0, stride=1):
+        """16 bytes, a stride apart, four to a number."""
+        places = [place + stride * i for i in range(16)]
+        shown = bytes(self.buffer[p] if p < BUFFER else 0 for p in places)
+        numbers = [int.from_bytes(shown[k : k + 4], "big") for k in range(0, 16, 4)]
+        self.add("S", (place, stride), ("S", numbers), "shown", "x")
+
+    def call(self, letter, side, record, length=None):
+        """A call that is lent the first bytes of the buffer, by default as many as it asks for; its refusal."""
+        n, *m = record.counts
+        length = right_length(letter, side, n) if length is None else length
+        answer = CALLS[letter](side, record, bytes(self.buffer[:length]))
+        self.buffer[:length] = answer.lent
+        points = zip(*(record.coordinates[axis::3] for axis in range(3)))
+        numbers = (side, n, record.mark, length, *(m or (0,)), *(x << 16 | y << 8 | z for x, y, z in points))
+        accepted, refused = ("A", (answer.count, *holding(answer.lent))), ("R", (answer.refusal, *holding(answer.lent)))
+        self.add(letter, numbers, accepted if answer.refusal is None else refused, answer.refusal or "accepted")
+        return answer.refusal
+
+    def all_calls(self, side, record):
+        """A drawing into an unmarked grid, a listing into a list that holds bytes, and a check."""
+        self.fill(side**3)
+        self.call("D", side, record)
+        self.fill(3 * record.counts[0] + 8, 17, 3)
+        self.call("L", side, record)
+        self.call("C", side, record)
+
+
+def document_samples(cases):
+    """K1 to K11 on each axis, with the cells along that axis and the list shown."""
+    for axis, (_, points, n, _, refusal) in product(range(3), K1_TO_K11):
+        record = curve(on_axis(axis, points), n, MARK)
+        cases.fill(512)
+        assert cases.call("D", 8, record) == refusal
+        cases.show(0, 8**axis)
+        cases.fill(3 * n + 8, 17, 3)
+        assert cases.call("L", 8, record) == refusal
+        for place in range(0, 3 * n + 3, 16):
+            cases.show(place)
+        assert cases.call("C", 8, record) == refusal
+
+
+def limits(cases):
+    """The ends of the ranges of side, step count and mark, and lengths of grid and list around the right ones."""
+    for side in 0, 1, 2, 3, 63, 64, 65, LARGEST:
+        cases.fill(min(side**3, BUFFER), 5)
+        for letter in ON_CURVES:
+            record = curve([min(max(side - 1, 0), 255)] * 12, 1, MARK)
+            cases.call(letter, side, record, min(right_length(letter, side, 1), BUFFER))
+    for n, points in product((0, 1, 2, 511, 512, 513, LARGEST), ([0] * 12, on_axis(2, (0, 63, 0, 63)), [63, 0, 31] * 4)):
+        for letter in ON_CURVES:
+            cases.call(letter, 64, curve(points, n, MARK), min(right_length(letter, 64, n), BUFFER))
+    for side in 2, 3, 8, 40, 63, 64:
+        cases.fill(BUFFER, 3, 7)
+        for length in 0, 1, side**2, (side - 1) ** 3, side**3 - 1, side**3, side**3 + 1, (side + 1) ** 3:
+            if length <= BUFFER:
+                cases.call("D", side, curve([1] * 12, 1, MARK), length)
+    for n in 1, 6, 170, 512:
+        cases.fill(3 * n + 6, 9, 11)
+        for length in 0, 1, 3 * n, 3 * n + 2, 3 * n + 3, 3 * n + 4, 3 * n + 6:
+            cases.call("L", 4, curve(on_axis(1, (0, 1, 2, 3)) if n > 1 else [2] * 12, n, 0), length)
+            cases.show(max(0, length - 12))
+    for mark, letter in product((0, 1, 255), ON_CURVES):
+        cases.fill(8, 255, 255)
+        cases.call(letter, 2, curve([1] * 12, 1, mark))
+
+
+# For each number, two ways to make it apply to a call with side 8 and step count 1 of a curve that stays in one cell.
+FAULTS = {
+    11: ({"side": 65}, {"side": 1}),
+    21: ({"length": 511}, {"length": 513}),
+    12: ({"mark": 0}, {"mark": 0}),
+    13: ({"n": 0}, {"n": 513}),
+    22: ({"length": 5}, {"length": 0}),
+    14: ({"z": 8}, {"z": 255}),
+    15: ({"x": 2}, {"x": 7}),
+}
+ORDERS = {"D": (11, 21, 12, 13, 14, 15), "L": (11, 13, 22, 14, 15), "C": (11, 13, 14, 15)}
+PATCH_FAULTS = {**FAULTS, 13: ({"n": 257}, {"m": 0})}
+PATCH_ORDERS = {"P": ORDERS["D"], "Q": ORDERS["C"]}
+
+
+def refusals(cases, orders, faults, record_of):
+    """Each call with every choice of up to three faults and with all: the first of the order is answered."""
+    cases.fill(BUFFER, 1, 1)
+    for letter, order in orders.items():
+        for way, size in product(range(2), (0, 1, 2, 3, len(order))):
+            for numbers in combinations(order, size):
+                length = 512 if right_length(letter, 8, 1) else 0
+                call = {"side": 8, "n": 1, "m": 1, "mark": MARK, "x": 0, "z": 0, "length": length}
+                for number in numbers:
+                    call.update(faults[number][way])
+                assert cases.call(letter, call["side"], record_of(call), call["length"]) == next(iter(numbers), None)
+
+
+def faulty_curve(call):
+    """A curve that stays in cell 0 but for the coordinates of its last point."""
+    return curve([0] * 9 + [call["x"], 0, call["z"]], call["n"], call["mark"])
+
+
+def faulty_patch(call):
+    """The same of a patch."""
+    return patch([0] * 45 + [call["x"], 0, call["z"]], call["n"], call["m"], call["mark"])
+
+
+def ties(cases):
+    """Samples on a half, reached from below and from above, on every axis."""
+    for side, low in (4, 0), (5, 0), (5, 1), (33, 14), (64, 0), (64, 60):
+        line = [low, low + 1, low + 2, low + 3]
+        cases.fill(side**3)
+        for axes, n in product(permutations((line, line[::-1], [low] * 4)), (2, 3, 4, 6, 18)):
+            points = [c for point in zip(*axes) for c in point]
+            cases.call("D", side, curve(points, n, 1 + len(cases.records) % 255))
+            cases.call("L", side, curve(points, n, MARK))
+            cases.show(max(0, 3 * (n + 1) - 16))
+    for n, points in product(range(10, 21), ((0, 0, 0, 4), (4, 0, 0, 0), (4, 4, 4, 0), (0, 4, 4, 4))):
+        cases.all_calls(5, curve(on_axis(n % 3, points), n, MARK))
+
+
+def ends(cases):
+    """Steps of exactly one cell and of a little more, and each coordinate at and past the end of the cube."""
+    for n, points in product((62, 63, 64, 126, 189), ((0, 21, 42, 63), (63, 42, 21, 0), (0, 0, 63, 63), (0, 63, 0, 63))):
+        cases.all_calls(64, curve(on_axis(n % 3, points), n, MARK))
+    for side, k in product((2, 8, 64), range(12)):
+        cases.fill(side**3)
+        for c in side - 1, side, 255:
+            points = [c if k == position else 0 for position in range(12)]
+            cases.call("D", side, curve(points, 512, 1 + k))
+            cases.call("L", side, curve(points, 512, 1 + k))
+
+
+def random_curve(dice, side):
+    """Points in a box of the cube, and a step count at which every step fits, or about as many as that takes."""
+    spread = dice.randrange(side)
+    corner = [dice.randrange(side - spread) for _ in range(3)]
+    points = [corner[k % 3] + dice.randrange(spread + 1) for k in range(12)]
+    gap = max(abs(points[k] - points[k + 3]) for k in range(9))
+    fits = max(1, 3 * gap)
+    n = dice.randrange(fits, min(2 * fits, 512) + 1) if dice.randrange(3) else dice.randrange(2 * gap, fits) + 1
+    return points, n, dice.randrange(1, 256)
+
+
+def grid_of_points(coordinate):
+    """Sixteen points, where coordinate(i, j) gives x y z of g(i, j)."""
+    return [c for i in range(4) for j in range(4) for c in coordinate(i, j)]
+
+
+def patch_samples(cases):
+    """K12's patch, also with each row in a line of its own; and every row along t K1's, on each axis."""
+    for z in (0, 0, 0, 0), (0, 0, 2, 2):
+        cases.fill(512)
+        k12 = patch(grid_of_points(lambda i, j: (i + j, j if any(z) else 0, z[j])), 4, 4, MARK)
+        assert cases.call("P", 8, k12) is None
+        for place in range(0, 192, 16):
+            cases.show(place)
+        cases.call("Q", 8, k12)
+    for axis, (n, refusal) in product(range(3), ((2, 15), (3, None), (4, None))):
+        k1 = patch(grid_of_points(lambda i, j: [i if axis == a else 0 for a in range(3)]), n, 1, MARK)
+        cases.fill(64)
+        assert cases.call("P", 4, k1) == refusal
+        cases.show(0, 4**axis)
+        cases.call("Q", 4, k1)
+
+
+def patch_limits(cases):
+    """The ends of the ranges of counts, side and lengths; steps of exactly one cell, and ties, along u and t only."""
+    for n, m in product((0, 1, 2, 256, 257, LARGEST), repeat=2):
+        if n * m <= 512 or max(n, m) > 256:
+            cases.call("P", 2, patch([1] * 48, n, m, MARK))
+            cases.call("Q", 2, patch([0, 1, 0] * 16, n, m, MARK))
+    for side, length in product((1, 2, 3, 64, 65), (-1, 0, 1)):
+        record = patch([side - 1] * 48, 1, 1, MARK)
+        cases.call("P", side, record, min(side**3 + length, BUFFER))
+    for k, c in product(range(48), (7, 8)):
+        cases.call("P", 8, patch([c if k == position else 0 for position in range(48)], 24, 24, 1 + k))
+    for axis, along, (n, m) in product(range(3), range(2), ((2, 3), (3, 2), (3, 3), (6, 6), (6, 1), (1, 6), (4, 5), (18, 6))):
+        for line in (0, 1, 2, 3), (3, 2, 1, 0):
+            record = patch(grid_of_points(lambda i, j: [line[(i, j)[along]] if axis == a else 1 for a in range(3)]), n, m, MARK)
+            cases.fill(64)
+            cases.call("P", 4, record)
+            cases.show(0, 4**axis)
+
+
+def large_patches(cases):
+    """The largest counts: bent over the whole cube, and with one step along the other parameter."""
+    def bent(i, j):
+        return 21 * i, 20 * j + (i == 1), 20 * i + (j in (1, 2))
+
+    for n, m, coordinate in (
+        (256, 256, bent),
+        (256, 1, lambda i, j: (21 * i, 0, 63 - 21 * i)),
+        (1, 256, lambda i, j: (63 - 21 * j, 21 * j, 5)),
+        (256, 1, lambda i, j: (21 * i, 21 * j, 0)),
+    ):
+        cases.fill(BUFFER)
+        cases.call("P", 64, patch(grid_of_points(coordinate), n, m, MARK))
+
+
+def random_patch(dice, side):
+    """Points in a box of the cube, free, flat on an axis, or alike along a parameter, with counts as for curves."""
+    spread = dice.randrange(min(side, 7))
+    corner = [dice.randrange(side - spread) for _ in range(3)]
+    kinds = [dice.randrange(6) for _ in range(3)]
+    rolls = [[dice.randrange(spread + 1) for _ in range(16)] for _ in range(3)]
+    keep = {0: lambda i, j: 0, 1: lambda i, j: i, 2: lambda i, j: 4 * j}
+
+    def coordinate(i, j):
+        return [corner[a] + rolls[a][keep.get(kinds[a], lambda i, j: 4 * i + j)(i, j)] for a in range(3)]
+
+    points = grid_of_points(coordinate)
+    gaps = [
+        max(abs(points[k] - points[k + by]) for k in range(48 - by) if by == 12 or k % 12 < 9) for by in (12, 3)
+    ]
+    fits = [max(1, 3 * gap) for gap in gaps]
+    counts = [dice.randrange(f, f + 4) if dice.randrange(6) else dice.randrange(2 * f // 3, f) + 1 for f in fits]
+    return points, *counts, dice.randrange(1, 256)
+
+
+def random_record(dice, letter, side):
+    """The points, counts and mark of a random curve or patch."""
+    points, *counts, mark = random_curve(dice, side) if letter in ON_CURVES else random_patch(dice, side)
+    return points, counts, mark
+
+
+def random_call(cases, dice, letter, side):
+    """A call of a random object, in about every seventh case with a fault, which the call may be free to ignore."""
+    points, counts, mark = random_record(dice, letter, side)
+    length = right_length(letter, side, counts[0]) + (dice.choice((0, 0, 1, 7)) if letter == "L" else 0)
+    fault = dice.randrange(42)
+    which = dice.randrange(len(counts))
+    if fault == 0:
+        side = dice.choice((0, 1, 65, 256, LARGEST, side + 1, side - 1))
+    if fault == 1:
+        points[dice.randrange(len(points))] = dice.choice((side, side + 1, 255, dice.randrange(side, 256)))
+    if fault == 2:
+        counts[which] = dice.choice((0, 513, 1 << 16, LARGEST, dice.randrange(514, 1 << 32)))
+    if fault == 3:
+        mark = 0
+    if fault == 4 and length:
+        length = dice.choice((length - 1, length + 1, dice.randrange(length)))
+    if fault == 5:
+        counts[which] = max(1, counts[which] // 3)
+    make = curve if letter in ON_CURVES else patch
+    cases.call(letter, side, make(points, *counts, mark), min(length, BUFFER))
+
+
+def random_calls(cases, dice):
+    """At every side: drawings one over another in grids that hold bytes, listings, and checks."""
+    for group in range(4 * 63):
+        side = 2 + group % 63
+        cases.fill(side**3, *((0, 0) if group % 4 == 0 else (dice.randrange(256), dice.randrange(256))))
+        for letter in "DDPDDPD":
+            random_call(cases, dice, letter, side)
+        cases.show(dice.randrange(side**3))
+        for letter in "LLLLCQ":
+            random_call(cases, dice, letter, side)
+
+
+def no_cases(cases):
+    """Records that are no case, of another form or lent more than there is; and bytes shown past the buffer's end."""
+    first = cases.records[0][0]
+    longer = [case_record(letter, (2, 1, MARK, BUFFER + 1), NUMBERS) for letter in "FDLP"]
+    for case in *malformed(first), first[:-1] + " ", *longer:
+        cases.records.append((case, answer_record("B", (), "d", ANSWERS)))
+    cases.fill(8, 1, 1)
+    cases.show(0, 0)
+    cases.show(BUFFER - 8)
+    cases.show(LARGEST, LARGEST)
+
+
+def main():
+    """Writes or checks both files, or prints the counts; the exit status."""
+    cases = Cases()
+    for part in document_samples, limits, ties, ends, patch_samples, patch_limits, large_patches:
+        part(cases)
+    refusals(cases, ORDERS, FAULTS, faulty_curve)
+    refusals(cases, PATCH_ORDERS, PATCH_FAULTS, faulty_patch)
+    random_calls(cases, random.Random(2))
+    no_cases(cases)
+    if "--count" in sys.argv[1:]:
+        for (letter, kind), count in sorted(cases.answered.items(), key=str):
+            print(letter, kind, count)
+        return 0
+    return store("drawing_cases", cases.records)
+
+
+if __name__ == "__main__":
+    sys.exit(main())
