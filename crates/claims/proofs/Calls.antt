@@ -8,7 +8,8 @@ use Rattle.curve.specs.declared.Curve.{Curve}
 use Rattle.curve.specs.Curve.{curveOf}
 use Rattle.patch.specs.declared.Patch.{Patch}
 use Rattle.patch.specs.Patch.{patchOf}
-use Rattle.claims.specs.Demand3.{Call, inTurn, run}
+use Rattle.drawing.specs.Drawing.{inTurn}
+use Rattle.claims.specs.Demand3.{Call, run}
 use Rattle.claims.specs.Calls.{curveCall, patchCall, Called, none, curve-then, patch-then}
 
 module _ {side : ℕ} {grid after : List ℕ} {r : Answer} where

@@ -12,8 +12,8 @@ use Rattle.walk.specs.Steps.{farApart, someSample, tooLong}
 use Rattle.cube.specs.Cube.{someAxis, sideOut, place}
 use Rattle.drawing.specs.Object.{offset, coordinate, exact, cellOf}
 use Rattle.drawing.specs.Refusals.{countOut, coordinateOut, stepsTooLong, order, drawVerdict}
-use Rattle.drawing.specs.Drawing.{row, rows, samples, marked, cells, drawn}
-use Rattle.claims.specs.Demand3.{Call, draw-curve, inTurn, run, Accepted}
+use Rattle.drawing.specs.Drawing.{row, rows, samples, marked, cells, drawn, inTurn}
+use Rattle.claims.specs.Demand3.{Call, draw-curve, run, Accepted}
 
 -- Along x from (0, 0, 0) to (1, 0, 0), and along y from (0, 0, 0) to (0, 1, 0), in one step each.
 abbrev along-x : ℕ → Call

@@ -1,13 +1,16 @@
 -- The strokes of a sheet are a list of calls that starts from an unmarked cube, so demand 3 speaks of them.
-use mathlib.Core.Path.{_≡_, _∙_, subst}
+use mathlib.Core.Path.{_≡_, refl, _∙_, subst}
 use mathlib.Core.Logic.{inl, inr, ⊎-elim}
 use mathlib.Core.List.{List, [], _∷_, _++_, map, map-append}
 use Prim.Native.Nat.{ℕ}
 use lib.ListN.{length, getD, length-replicate, getD-replicate}
 use Rattle.cube.specs.Cube.{place, volume}
 use Rattle.cube.proofs.Places.{place-below}
-use Rattle.claims.specs.Demand3.{MarkOfNearObject, Demand3}
-use Rattle.claims.specs.Strokes.{Stroke, unmarked, callOf, drawing, StrokesDrawn}
+use Rattle.drawing.specs.Drawing.{drawn, inTurn}
+use Rattle.sheet.specs.Sheet.{Stroke}
+use Rattle.sheet.specs.Printed.{cubeOf}
+use Rattle.claims.specs.Demand3.{sideOf, objectOf, run, MarkOfNearObject, Demand3}
+use Rattle.claims.specs.Strokes.{unmarked, callOf, drawing, StrokesDrawn}
 use Rattle.claims.proofs.Demand3.{claim}
 
 pub strokes-drawn : (S : ℕ) (strokes : List Stroke) → StrokesDrawn S strokes
@@ -26,3 +29,15 @@ strokes-drawn S strokes =
           (all (before ++ s ∷ []) .each-object (map (callOf S) before) [] (callOf S s)
           (map-append (callOf S) before (s ∷ [])) (rw cube e));
     }
+
+-- Calls made of strokes, drawn in turn, are the strokes drawn in turn.
+turn-map : {A C : Type 0} (draw : C → List ℕ → List ℕ) (call : A → C) (l : List A) (grid : List ℕ) →
+    inTurn (λ a. draw (call a)) l grid ≡ inTurn draw (map call l) grid
+unfolding inTurn
+turn-map draw call [] grid = refl
+turn-map draw call (a ∷ l) grid = turn-map draw call l (draw (call a) grid)
+
+-- The sheet's cube is the one that `StrokesDrawn` speaks of.
+pub sheet-cube : (S : ℕ) (strokes : List Stroke) → cubeOf S strokes ≡ drawing S strokes
+unfolding cubeOf run
+sheet-cube S strokes = turn-map (λ call. drawn (sideOf call) (objectOf call)) (callOf S) strokes (unmarked S)

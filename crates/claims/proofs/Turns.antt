@@ -5,7 +5,7 @@ use mathlib.Core.Logic.{_⊎_, inl, inr, ⊎-elim}
 use mathlib.Core.List.{List, [], _∷_, _++_, List·Memᴰ, List·Memᴰ·head, List·Memᴰ·tail}
 use Prim.Native.Nat.{ℕ, _<_}
 use lib.ListN.{length, getD}
-use Rattle.claims.specs.Demand3.{inTurn}
+use Rattle.drawing.specs.Drawing.{inTurn}
 
 -- What a kind of call supplies: how it draws, which calls are accepted into a grid of some length, and what it says
 -- of a byte that it marks. A drawing keeps the grid's length, and at each place it keeps the byte, or the call is

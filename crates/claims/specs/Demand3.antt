@@ -12,7 +12,7 @@ use Rattle.walk.specs.Steps.{Follows}
 use Rattle.cube.specs.Cube.{Axis, Cell, Inside, place, volume}
 use Rattle.drawing.specs.Object.{Object, curve, patch, scaleOf, exact, cellOf}
 use Rattle.drawing.specs.Refusals.{drawVerdict}
-use Rattle.drawing.specs.Drawing.{drawn}
+use Rattle.drawing.specs.Drawing.{drawn, inTurn}
 
 -- The list holds curve draws and patch draws, each with any side and any record.
 pub data Call : Type 0 where
@@ -26,11 +26,6 @@ sideOf (draw-patch side n m points mark) = side
 abbrev pub objectOf : Call → Object
 objectOf (draw-curve side n points mark) = curve n points mark
 objectOf (draw-patch side n m points mark) = patch n m points mark
-
--- Each call gets the grid as the last one left it.
-unfoldable pub inTurn : {C : Type 0} (draw : C → List ℕ → List ℕ) → List C → List ℕ → List ℕ
-inTurn draw [] grid = grid
-inTurn draw (call ∷ calls) grid = inTurn draw calls (draw call grid)
 
 -- The grid after a list of calls, refused ones included.
 unfoldable pub run : List Call → List ℕ → List ℕ

@@ -6,14 +6,8 @@ use mathlib.Core.List.{List, [], _∷_, _++_, map}
 use Prim.Native.Nat.{ℕ}
 use lib.ListN.{getD, replicate}
 use Rattle.cube.specs.Cube.{Cell, Inside, place, volume}
-use Rattle.drawing.specs.Object.{curve}
+use Rattle.sheet.specs.Sheet.{Stroke, objectOf}
 use Rattle.claims.specs.Demand3.{Call, draw-curve, run, Accepted, MarkOfNearObject, JustDrawn}
-
--- A curve line: its step count, the coordinates of its points and its mark.
-pub record Stroke : Type 0 where
-  pub steps : ℕ
-  pub points : List ℕ
-  pub mark : ℕ
 
 -- A cube with no mark.
 abbrev pub unmarked : (S : ℕ) → List ℕ
@@ -34,4 +28,4 @@ pub record StrokesDrawn (S : ℕ) (strokes : List Stroke) : Type 0 where
       MarkOfNearObject (volume S) (map (callOf S) strokes) c (getD (drawing S strokes) (place S c) 0)
   pub each-stroke : (before after : List Stroke) (s : Stroke) → strokes ≡ before ++ s ∷ after →
       Accepted (volume S) (callOf S s) →
-      JustDrawn S (curve (s .steps) (s .points) (s .mark)) (drawing S (before ++ s ∷ []))
+      JustDrawn S (objectOf s) (drawing S (before ++ s ∷ []))

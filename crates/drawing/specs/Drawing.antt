@@ -46,6 +46,11 @@ cells o = map (cellOf o) (samples (o .counts))
 unfoldable pub drawn : (S : ℕ) (o : Object) (grid : List ℕ) → List ℕ
 drawn S o grid = leaves (drawVerdict S (length grid) o) (marked (o .mark) (map (place S) (cells o)) grid) grid
 
+-- Each call gets the grid as the last one left it.
+unfoldable pub inTurn : {C : Type 0} (draw : C → List ℕ → List ℕ) → List C → List ℕ → List ℕ
+inTurn draw [] grid = grid
+inTurn draw (call ∷ calls) grid = inTurn draw calls (draw call grid)
+
 -- The list after a listing: an accepted one writes three bytes, x y z, for each sample in turn from the front, and
 -- leaves the rest.
 unfoldable pub listed : (S : ℕ) (o : Object) (list : List ℕ) → List ℕ

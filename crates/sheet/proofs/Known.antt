@@ -1,0 +1,24 @@
+-- The known sheets print what document 01 says: one claim, computed from the definitions.
+use lib.Dec.{T}
+use Rattle.bezier.specs.Exact.{blend, scale, points, value}
+use Rattle.decide.specs.Some.{someBelow, someOf}
+use Rattle.decide.specs.Refusal.{firstThat}
+use Rattle.walk.specs.Walk.{withinHalf, towards, move, walk, cell}
+use Rattle.walk.specs.Steps.{farApart, someSample, tooLong}
+use Rattle.cube.specs.Cube.{someAxis, sideOut, place}
+use Rattle.drawing.specs.Object.{offset, coordinate, exact, cellOf}
+use Rattle.drawing.specs.Refusals.{countOut, coordinateOut, stepsTooLong, order, drawVerdict}
+use Rattle.drawing.specs.Drawing.{row, rows, samples, marked, cells, drawn, inTurn}
+use Rattle.sheet.specs.Field.{isDigit, areDigits, afterBlanks, isNumber, digitsOf, isBad, decimal, valueOf, inColumns}
+use Rattle.sheet.specs.Line.{before, lines, isWrong, someBad, asLine}
+use Rattle.sheet.specs.Sheet.{sideOrder, markOut, curveOrder, judgeCurves, judgeLines, judge}
+use Rattle.sheet.specs.Printed.{cubeOf, cellLine, cellLines, listing, refusalLine, output}
+use Rattle.sheet.specs.Known.{times, known, sameBytes, allPrint}
+
+pub known-print : T (allPrint known)
+unfolding blend scale points value someBelow someOf firstThat withinHalf towards move walk cell farApart someSample tooLong
+    someAxis sideOut place offset coordinate exact cellOf countOut coordinateOut stepsTooLong order drawVerdict row rows
+    samples marked cells drawn isDigit areDigits afterBlanks isNumber digitsOf isBad decimal valueOf inColumns
+    before lines isWrong someBad asLine sideOrder markOut curveOrder judgeCurves judgeLines judge inTurn cubeOf cellLine
+    cellLines listing refusalLine output times sameBytes allPrint
+known-print = tt

@@ -1,0 +1,47 @@
+-- The length of what is printed.
+use mathlib.Core.Path.{_≡_, refl, _∙_, ap, ap₂}
+use mathlib.Core.Logic.{⊎-elim}
+use mathlib.Core.Bool.{Bool, true, false, cond}
+use mathlib.Core.List.{List, [], _∷_, _++_}
+use Prim.Native.Nat.{ℕ, suc, _+_, _*_, _/_, _%_}
+use native.Mathlib.Omega.{arith}
+use lib.Dec.{eqb}
+use lib.ListN.{length, length-append}
+use Rattle.sheet.specs.Field.{columns}
+use Rattle.sheet.specs.Line.{asLine}
+use Rattle.sheet.specs.Printed.{cellLine, cellLines, heading, listing, markedCells, refusalLine}
+use Rattle.sheet.proofs.Numbers.{length-inColumns}
+
+-- A line has 5 bytes for each number and its line feed.
+pub length-asLine : (vs : List ℕ) → length (asLine vs) ≡ 5 * length vs + 1
+unfolding asLine
+length-asLine [] = refl
+length-asLine (v ∷ vs) =
+    length-append (columns v) (asLine vs) ∙ ap₂ _+_ (length-inColumns 5 v) (length-asLine vs) ∙ omega arith
+
+length-cellLine : (S p mark : ℕ) → length (cellLine S p mark) ≡ 21 * cond (eqb mark 0) 0 1
+unfolding cellLine
+length-cellLine S p mark = at (eqb mark 0)
+  where
+    at : (b : Bool) →
+        length (cond b [] (asLine (p % S ∷ p / S % S ∷ p / (S * S) ∷ mark ∷ []))) ≡ 21 * cond b 0 1
+    at true = refl
+    at false = length-asLine (p % S ∷ p / S % S ∷ p / (S * S) ∷ mark ∷ [])
+
+length-cellLines : (S p : ℕ) (grid : List ℕ) → length (cellLines S p grid) ≡ 21 * markedCells grid
+unfolding cellLines markedCells
+length-cellLines S p [] = refl
+length-cellLines S p (mark ∷ grid) =
+    length-append (cellLine S p mark) (cellLines S (suc p) grid) ∙
+    ap₂ _+_ (length-cellLine S p mark) (length-cellLines S (suc p) grid) ∙ omega arith
+
+-- The listing has 21 bytes for the heading and for each marked cell.
+pub length-listing : (S : ℕ) (grid : List ℕ) → length (listing S grid) ≡ 21 * (1 + markedCells grid)
+unfolding listing
+length-listing S grid = length-append heading (cellLines S 0 grid) ∙ ap (21 +_) (length-cellLines S 0 grid) ∙ omega arith
+
+-- A refusal line has 18 bytes.
+pub length-refusalLine : (n k : ℕ) → length (refusalLine n k) ≡ 18
+unfolding refusalLine
+length-refusalLine n k =
+    length-append (82 ∷ 69 ∷ 70 ∷ 85 ∷ 83 ∷ 69 ∷ 68 ∷ []) (asLine (n ∷ k ∷ [])) ∙ ap (7 +_) (length-asLine (n ∷ k ∷ []))

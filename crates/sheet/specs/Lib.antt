@@ -1,0 +1,8 @@
+-- Document 01, "The stroke sheet", in its own order. `Field`: fields and their values. `Line`: lines and their fields.
+-- `Sheet`: the refusals of lines, and a sheet's strokes. `Printed`: the listing and the refusal line as bytes, and the
+-- whole output. `Known`: sheets and what is printed for them.
+pub mod Field
+pub mod Line
+pub mod Sheet
+pub mod Printed
+pub mod Known

@@ -1,0 +1,1 @@
+// The stroke sheet: definitions and their laws.
