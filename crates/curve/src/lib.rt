@@ -49,7 +49,7 @@ pub fn draw_curve(side: u32, curve: Curve, grid: &mut [u8]) -> Answer
         Verdict::Refused(k) => Answer::Refused(k),
         Verdict::Accepted => {
             samples::mark_samples(side, curve, grid);
-            Answer::Samples(curve.steps + 1)
+            Answer::Samples(curve.steps + 1) // samples 0 to n
         }
     }
 }
