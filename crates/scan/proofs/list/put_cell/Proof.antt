@@ -10,7 +10,8 @@ use lib.ListN.{length-set}
 use Rattle.integers.proofs.Magnitude.{within-pos}
 use Rattle.cube.specs.Cube.{x-axis, y-axis, z-axis}
 use Rattle.cubic.proofs.Fits.{read, held}
-use Rattle.scan.specs.Walker.{IsByte, cellOfWalker}
+use Rattle.scan.specs.declared.walker.Walker.{Walker}
+use Rattle.scan.specs.Walker.{IsByte, ByteCell, cellOfWalker}
 use Rattle.scan.proofs.list.put_cell.Statement.{statement}
 use Rattle.scan.proofs.list.put_cell.Tie as tie
 
@@ -25,14 +26,18 @@ module _ {z : ℤ} (p : IsByte z) where
   magnitude : {r : ℕ} → r ≡ natAbs (read z) → r ≡ natAbs z
   magnitude e = e ∙ ap natAbs byte-read
 
+-- Each coordinate, as it is read back.
+read-cell : {w : Walker} → ByteCell w → IsByte (read (w .x .at)) × IsByte (read (w .y .at)) × IsByte (read (w .z .at))
+read-cell b = (read-byte (b x-axis), read-byte (b y-axis), read-byte (b z-axis))
+
 byte-requires : tie.Need-byte-requires
-byte-requires c κs = read-byte (c .before .before .before .before .before .pre .0 x-axis)
+byte-requires c κs = search (read-cell (c .before .before .before .before .before .pre .0))
 
 slice-write-list : tie.Need-slice-write-list
 slice-write-list c = search needs
 
 byte-requires-2 : tie.Need-byte-requires-2
-byte-requires-2 c κs = read-byte (c .before .before .before .before .before .before .before .pre .0 y-axis)
+byte-requires-2 c κs = search (read-cell (c .before .before .before .before .before .before .before .pre .0))
 
 add-list : tie.Need-add-list
 add-list c = search needs
@@ -43,7 +48,7 @@ slice-write-list-2 c =
 
 byte-requires-3 : tie.Need-byte-requires-3
 byte-requires-3 c κs =
-    read-byte (c .before .before .before .before .before .before .before .before .before .pre .0 z-axis)
+    search (read-cell (c .before .before .before .before .before .before .before .before .before .pre .0))
 
 add-list-2 : tie.Need-add-list-2
 add-list-2 c = search needs

@@ -7,7 +7,9 @@ use Rattle.cubic.specs.declared.axis.Axis.{Axis}
 use Rattle.cubic.specs.Axis.{stepOf}
 use Rattle.cubic.specs.Room.{Steps}
 use Rattle.cubic.proofs.Fits.{read, held}
+use Rattle.scan.specs.declared.walker.Strides.{Strides}
 use Rattle.scan.specs.declared.walker.Walker.{Walker}
+use Rattle.scan.specs.Walker.{StepsAll}
 use Rattle.scan.proofs.walker.Walker.step.Statement.{statement}
 use Rattle.scan.proofs.walker.Walker.step.Tie as tie
 
@@ -19,14 +21,20 @@ module _ {N h : ℤ} {a : Axis} (p : Steps N h a) where
   step-read : {r : Axis} → r ≡ stepOf (read N) (read h) a → r ≡ stepOf N h a
   step-read e = rw (held (p .scale) (lit< tt) .same, held (p .stride) (lit< tt) .same) at e
 
+-- Room on each axis. A search reads the fields one by one, so that any stride of the three goes with any axis.
+room : {N : ℤ} {h : Strides} {w : Walker} → StepsAll N h w →
+    Steps N (h .x) (w .x) × Steps N (h .y) (w .y) × Steps N (h .z) (w .z)
+room p = (p .on x-axis, p .on y-axis, p .on z-axis)
+
 step-requires : tie.Need-step-requires
-step-requires c κs = steps-read (c .before .before .before .before .pre .on x-axis)
+step-requires c κs = let p = room (c .before .before .before .before .pre) in search steps-read
 
 step-requires-2 : tie.Need-step-requires-2
-step-requires-2 c κs = steps-read (c .before .before .before .before .before .before .pre .on y-axis)
+step-requires-2 c κs = let p = room (c .before .before .before .before .before .before .pre) in search steps-read
 
 step-requires-3 : tie.Need-step-requires-3
-step-requires-3 c κs = steps-read (c .before .before .before .before .before .before .before .before .pre .on z-axis)
+step-requires-3 c κs =
+    let p = room (c .before .before .before .before .before .before .before .before .pre) in search steps-read
 
 -- Walkers with equal axes are equal.
 same-axes : {x x′ y y′ z z′ : Axis} → x ≡ x′ → y ≡ y′ → z ≡ z′ →
