@@ -45,16 +45,17 @@ column-bytes p a k =
     let three : 36 + (3 * k + a) ≡ 3 * (12 + k) + a = omega arith in
     rw (one, two, three)
 
-module _ {p : Patch} (l : InLimits p) {a : ℕ} (h : a < 3) where
-  pub in-column : {k : ℕ} → k < 4 → InColumn (p .points) (p .n) 12 (3 * k + a)
-  in-column hk = record {
+module _ {p : Patch} (l : InLimits p) where
+  pub in-column : {gap at : ℕ} → 3 * gap + at < 48 → InColumn (p .points) (p .n) gap at
+  in-column h = record {
     count = le-trans (l .n-most) (lit≤ tt);
-    there = rw (l .forty-eight) (omega arith);
+    there = rw (l .forty-eight) h;
     coordinates = l .coordinates;
   }
 
+module _ {p : Patch} (l : InLimits p) {a : ℕ} (h : a < 3) where
   pub column-along-room : {k : ℕ} → k < 4 → (i : ℕ) → i ≤ p .n → Room (differencesAt (columnAlong p a k) i)
-  column-along-room {k} hk = rw (← column-bytes p a k) (column-room (in-column hk))
+  column-along-room {k} hk = rw (← column-bytes p a k) (column-room (in-column l (omega arith)))
 
   -- Each coordinate is below 64.
   pub points-below : (k : ℕ) → k < 16 → numbered p a k ≤ 63
@@ -125,16 +126,16 @@ module _ (p : Patch) (a : ℕ) where
         next-differences _ i
         (slope-cubic _ _ _ _ _ (column-cubic 0) (column-cubic 1) (column-cubic 2) (column-cubic 3) j)
 
--- The product of what two calls answer for n × n × n and m × m × m is the scale, and is held.
-module _ {p : Patch} (l : InLimits p) {r s : ℤ} (e : r ≡ pos (p .n * p .n * p .n)) (f : s ≡ pos (p .m * p .m * p .m)) where
-  cube-small : {n : ℕ} → n ≤ 256 → n * n * n ≤ 16777216
-  cube-small h = mul-le-mul (mul-le-mul h h) h
+cube-small : {n : ℕ} → n ≤ 256 → n * n * n ≤ 16777216
+cube-small h = mul-le-mul (mul-le-mul h h) h
 
+-- The product of what two calls answer for n × n × n and m × m × m fits, and is held.
+module _ {n m : ℕ} {r s : ℤ} (e : r ≡ pos (n * n * n)) (f : s ≡ pos (m * m * m)) (hn : n ≤ 256) (hm : m ≤ 256) where
   pub scale-fits : SFits w64 (read r *ℤ read s)
-  scale-fits = mul-fits (natural-held e (cube-small (l .n-most)) (lit< tt)) (natural-held f (cube-small (l .m-most)) (lit< tt)) (lit< tt)
+  scale-fits = mul-fits (natural-held e (cube-small hn) (lit< tt)) (natural-held f (cube-small hm) (lit< tt)) (lit< tt)
 
-  pub scale-held : Holds (16777216 * 16777216) (pos (scaleAlong p)) (read (read r *ℤ read s))
-  scale-held = mul (natural-held e (cube-small (l .n-most)) (lit< tt)) (natural-held f (cube-small (l .m-most)) (lit< tt)) (lit< tt)
+  pub scale-held : Holds (16777216 * 16777216) (pos (n * n * n * (m * m * m))) (read (read r *ℤ read s))
+  scale-held = mul (natural-held e (cube-small hn) (lit< tt)) (natural-held f (cube-small hm) (lit< tt)) (lit< tt)
 
 -- What is read back of the fields of a cubic at index 0.
 pub record FieldsRead (f : ℕ → ℤ) (c : Cubic) : Type 0 where

@@ -8,7 +8,7 @@ use crate::Patch;
 use crate::surface::start_surface;
 
 // Some two neighbouring samples, along t or along u, lie more than one cell apart on the axis number a. The search is
-// left at the first such step.
+// left at the first such step, and takes no difference past an end.
 fn step_too_long_along(patch: Patch, a: usize) -> bool
     requires { ⌜ InLimits patch ⌝ }
     requires { ⌜ a < 3 ⌝ }
@@ -16,30 +16,38 @@ fn step_too_long_along(patch: Patch, a: usize) -> bool
 {
     let scale = scan::number::cubed(patch.n) * scan::number::cubed(patch.m);
     let mut surface = start_surface(patch, a);
+    let last = patch.n - 1;
     let mut found = false;
     let mut j = 0;
     'search: loop {
         let mut row = surface.row();
-        let mut slope = surface.slope();
         let mut i = 0;
         loop {
-            if j < patch.m && cubic::long::is_long(scale, slope.value) {
-                found = true;
-                break 'search;
-            }
-            if i == patch.n {
-                break;
-            }
             if cubic::long::is_long(scale, row.d1) {
                 found = true;
                 break 'search;
             }
+            if i == last {
+                break;
+            }
             row = row.next();
-            slope = slope.next();
             i += 1;
         }
         if j == patch.m {
             break;
+        }
+        let mut slope = surface.slope();
+        let mut k = 0;
+        loop {
+            if cubic::long::is_long(scale, slope.value) {
+                found = true;
+                break 'search;
+            }
+            if k == patch.n {
+                break;
+            }
+            slope = slope.next();
+            k += 1;
         }
         surface = surface.next();
         j += 1;

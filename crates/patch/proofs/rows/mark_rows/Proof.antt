@@ -78,7 +78,8 @@ scale-read : (c : tie.After-cubed2 Inv-loop μ-loop) →
     pos (scaleOf (patchOf (patch (c .before .before .before .before))))
 scale-read c =
     let s = c .before .before .before .before in
-    scale-held (limits s) (c .before .cubed .ensures) (c .cubed2 .ensures) .same ∙ ap pos (sym (patch-scale (patch s)))
+    scale-held (c .before .cubed .ensures) (c .cubed2 .ensures) (limits s .n-most) (limits s .m-most) .same ∙
+    ap pos (sym (patch-scale (patch s)))
 
 grid-strides-requires : tie.Need-grid-strides-requires Inv-loop μ-loop
 grid-strides-requires c κs = drawable (c .before) .side-most
@@ -90,7 +91,10 @@ cubed-requires-2 : tie.Need-cubed-requires-2 Inv-loop μ-loop
 cubed-requires-2 c κs = omega (arith, limits (c .before .before .before) .m-most)
 
 mul-scale : tie.Need-mul-scale Inv-loop μ-loop
-mul-scale c = scale-fits (limits (c .before .before .before .before)) (c .before .cubed .ensures) (c .cubed2 .ensures)
+mul-scale c =
+    let l = limits (c .before .before .before .before) in
+    scale-fits (c .before .cubed .ensures) (c .cubed2 .ensures) (omega (arith, l .n-most, l .m-most))
+    (omega (arith, l .n-most, l .m-most))
 
 start-lines-requires : tie.Need-start-lines-requires Inv-loop μ-loop
 start-lines-requires c κs =

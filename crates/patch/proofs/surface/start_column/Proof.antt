@@ -1,5 +1,6 @@
 -- `start_column` meets its contract: the four points are a column, twelve bytes apart.
 use borrow.Author.Needs.{needs}
+use native.Mathlib.Omega.{arith}
 use Rattle.patch.proofs.Along.{column-bytes, in-column}
 use Rattle.patch.proofs.surface.start_column.Statement.{statement}
 use Rattle.patch.proofs.surface.start_column.Tie as tie
@@ -14,7 +15,7 @@ add-start-column : tie.Need-add-start-column
 add-start-column c = search needs
 
 start-column-requires : tie.Need-start-column-requires
-start-column-requires c κs = let s = c .before .before in in-column (s .pre .0) (s .pre .1 .0) (s .pre .1 .1)
+start-column-requires c κs = let s = c .before .before in in-column (s .pre .0) (omega (arith, s .pre .1 .0, s .pre .1 .1))
 
 returns : tie.Need-returns
 returns c =
