@@ -123,8 +123,9 @@ module _ (c : tie.At-search Inv-loop μ-loop Inv-loop2 μ-loop2 Inv-search μ-se
 
   scale : Holds (16777216 * 16777216) (pos (scaleAlong patch)) product
   scale =
-      scale-held (c .before .before .before .before .cubed .ensures) (c .before .before .before .cubed2 .ensures) (limits .n-most)
-      (limits .m-most)
+      scale-held (c .before .before .before .before .cubed .ensures) (c .before .before .before .cubed2 .ensures)
+      (omega (arith, limits .n-most, limits .m-most))
+      (omega (arith, limits .n-most, limits .m-most))
 
   -- The two tests are those of a step along t and of a step along u.
   t-tests : {found r : Bool} {row : Cubic} {i : ℕ} → AlongT patch axis j found row i →
