@@ -1,0 +1,29 @@
+-- A listing, and the refusal line, written into a lent text: a listing in parts, by ranges of byte places.
+use mathlib.Core.Bool.{cond, not}
+use mathlib.Core.List.{List, [], _∷_, _++_}
+use Prim.Native.Nat.{ℕ, _+_, _*_}
+use lib.Dec.{ltb, eqb}
+use lib.ListN.{length, take, drop}
+use Rattle.decide.specs.Refusal.{Rule, _when_}
+use Rattle.cube.specs.Cube.{sideOut, volume}
+use Rattle.sheet.specs.Printed.{cellLines, heading}
+
+-- The part of a listing for count places from byte p on; the part from byte 0 begins with the heading.
+unfoldable pub part : (S p count : ℕ) (cube : List ℕ) → List ℕ
+part S p count cube = cond (eqb p 0) heading [] ++ cellLines S p (take count (drop p cube))
+
+-- A part's order: 11, 21, 22. 22: the text is shorter than 21 × (count + 1) bytes, the heading and a line for each place.
+unfoldable pub partOrder : (S count cubeLength textLength : ℕ) → List Rule
+partOrder S count cubeLength textLength =
+    11 when sideOut S ∷
+    21 when not (eqb cubeLength (volume S)) ∷
+    22 when ltb textLength (21 * (count + 1)) ∷
+    []
+
+-- The refusal line's order. 22: the text is shorter than 18 bytes.
+unfoldable pub lineOrder : (textLength : ℕ) → List Rule
+lineOrder textLength = 22 when ltb textLength 18 ∷ []
+
+-- What a text holds with bytes written from its front.
+abbrev pub over : (written text : List ℕ) → List ℕ
+over written text = written ++ drop (length written) text
