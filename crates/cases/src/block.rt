@@ -3,7 +3,8 @@ ghost use mathlib.Core.Path.{_≡_};
 ghost use mathlib.Core.Logic.{_⊎_};
 ghost use Prim.Native.Nat.{_*_, _≤_, _<_};
 ghost use lib.ListN.{length};
-ghost use Rattle.cases.specs.Block.{ReadInto, isMore};
+ghost use Rattle.reading.specs.Read.{ReadInto};
+ghost use Rattle.cases.specs.Block.{isMore};
 
 // Whether there may be more input, it has ended, or reading or writing failed.
 pub enum Progress {
@@ -18,19 +19,13 @@ pub struct Block {
     pub then: Progress,
 }
 
-// How many bytes were read, and whether a read failed.
-struct Input {
-    count: usize,
-    failed: bool,
-}
-
 // Reads records of the given width until their buffer is full or the input ends. A record that is cut short is a
 // failure.
 pub fn read_records(records: &mut [u8], width: usize) -> Block
     requires { ⌜ 0 < width ⌝ }
     ensures { λ r. ⌜ ReadInto (now (records .entry)) 0 (r .count * width) (now (records .exit)) ⌝ }
 {
-    let input = fill(libc::STDIN_FILENO, records);
+    let input = reading::fill(libc::STDIN_FILENO, records);
     let count = input.count / width;
     if input.failed || input.count % width != 0 {
         return Block {
@@ -48,40 +43,6 @@ pub fn read_records(records: &mut [u8], width: usize) -> Block
             count,
             then: Progress::More,
         }
-    }
-}
-
-// Reads until buf is full, the input ends or a read fails.
-fn fill(fd: i32, buf: &mut [u8]) -> Input
-    ensures { λ r. ⌜ ReadInto (now (buf .entry)) 0 (r .count) (now (buf .exit)) ⌝ }
-{
-    let mut done = 0;
-    while done < buf.len() {
-        let input = read_at(fd, buf, done);
-        done += input.count;
-        if input.count == 0 || input.failed {
-            return Input {
-                count: done,
-                failed: input.failed,
-            };
-        }
-    }
-    Input {
-        count: done,
-        failed: false,
-    }
-}
-
-// One read into buf from byte at on: no bytes at the end of the input.
-fn read_at(fd: i32, buf: &mut [u8], at: usize) -> Input
-    requires { ⌜ at ≤ length (now buf) ⌝ }
-    ensures { λ r. ⌜ ReadInto (now (buf .entry)) at (r .count) (now (buf .exit)) ⌝ }
-{
-    let rest = &mut buf[at..];
-    let got = libc::read(fd, rest);
-    Input {
-        count: io::count(got, rest),
-        failed: got < 0,
     }
 }
 

@@ -3,7 +3,7 @@ use mathlib.Core.List.{List}
 use Prim.Native.Nat.{ℕ, _*_, _/_}
 use native.Mathlib.Nat.{div-mul-le-self}
 use native.Mathlib.Omega.{arith}
-use Rattle.cases.specs.Block.{ReadInto}
+use Rattle.reading.specs.Read.{ReadInto}
 use borrow.Author.Needs.{needs}
 use Rattle.cases.proofs.block.read_records.Statement.{statement}
 use Rattle.cases.proofs.block.read_records.Tie as tie

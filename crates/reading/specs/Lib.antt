@@ -1,0 +1,2 @@
+-- `Read`: what a read leaves of the buffer that it fills.
+pub mod Read
