@@ -1,0 +1,29 @@
+-- What is read of a field, of the input's next line and of a curve line.
+use mathlib.Core.Bool.{Bool, cond, not, _&&_}
+use mathlib.Core.List.{List, [], _∷_}
+use Prim.Native.Nat.{ℕ, _+_}
+use lib.Dec.{ltb, eqb}
+use Rattle.decide.specs.Some.{someBelow}
+use Rattle.drawing.specs.Refusals.{countOut}
+use Rattle.sheet.specs.Field.{isBad, valueOf}
+use Rattle.sheet.specs.Line.{number, someBad}
+use Rattle.sheet.specs.Sheet.{markOut}
+
+-- The value of a field, and 100000, which no field holds, for a bad one.
+unfoldable pub readField : List ℕ → ℕ
+readField f = cond (isBad f) 100000 (valueOf f)
+
+-- The first line of what is left of an input: up to and including its line feed, or to the end.
+unfoldable pub firstLine : (rest : List ℕ) → List ℕ
+firstLine [] = []
+firstLine (b ∷ bs) = b ∷ cond (eqb b 10) [] (firstLine bs)
+
+-- A curve line that a curve record holds: all fields good, a mark from 1 to 255, every coordinate a byte.
+unfoldable pub fits : (line : List ℕ) → Bool
+fits l = not (someBad 14 l) && not (markOut (number l 0)) && not (someBelow 12 (λ k. ltb 255 (number l (k + 2))))
+
+-- The number that refuses a curve line that does not fit, in the order of a curve line. What is left is a coordinate
+-- above 255, which is not below any side: 14.
+unfoldable pub unfitRefusal : (line : List ℕ) → ℕ
+unfitRefusal l =
+    cond (someBad 14 l) 42 (cond (markOut (number l 0)) 12 (cond (countOut 512 (number l 1)) 13 14))

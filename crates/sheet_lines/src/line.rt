@@ -1,0 +1,119 @@
+// A line of a stroke sheet: where it ends, its numbers, and a curve line's curve.
+ghost use mathlib.Core.Path.{_≡_};
+ghost use mathlib.Core.Bool.{true, false, not};
+ghost use Prim.Native.Nat.{_+_, _*_, _≤_};
+ghost use lib.ListN.{length};
+ghost use Rattle.curve.specs.Curve.{curveOf};
+ghost use Rattle.sheet.specs.Line.{field, isWrong, someBad};
+ghost use Rattle.sheet.specs.Sheet.{strokeOf, objectOf};
+ghost use Rattle.sheet_lines.specs.Read.{readField, firstLine, fits, unfitRefusal};
+use crate::field::number;
+use curve::Curve;
+
+// The number in field k, from 0; 100000 if the field is bad.
+pub fn number_at(line: &[u8], k: usize) -> u32
+    requires { ⌜ 5 * k + 5 ≤ length (now line) ⌝ }
+    ensures { λ r. ⌜ r ≡ readField (field (now (line .entry)) k) ⌝ }
+{
+    let at = 5 * k;
+    number(&line[at..at + 5])
+}
+
+// Whether the first line has as many fields, and its line feed after them.
+pub fn is_line(rest: &[u8], fields: usize) -> bool
+    requires { ⌜ fields ≤ 14 ⌝ }
+    ensures { λ r. ⌜ r ≡ not (isWrong fields (firstLine (now (rest .entry)))) ⌝ }
+{
+    let last = 5 * fields;
+    if rest.len() <= last {
+        return false;
+    }
+    let mut i = 0;
+    while i < last {
+        if rest[i] == b'\n' {
+            return false;
+        }
+        i += 1;
+    }
+    rest[last] == b'\n'
+}
+
+// A curve line as read: its curve, if every field is good, the mark from 1 to 255 and every coordinate a byte.
+pub struct Read {
+    pub curve: Curve,
+    pub fits: bool,
+}
+
+// Reads each field of a curve line once, up to one that does not fit.
+pub fn read_curve(line: &[u8]) -> Read
+    requires { ⌜ 70 ≤ length (now line) ⌝ }
+    ensures { λ r. ⌜ r .fits ≡ fits (now (line .entry)) ⌝ }
+    ensures { λ r. ⌜ (r .fits ≡ true → curveOf (r .curve) ≡ objectOf (strokeOf (now (line .entry)))) ⌝ }
+{
+    let mark = number_at(line, 0);
+    let steps = number_at(line, 1);
+    let mut points = [0u8; 12];
+    if mark == 0 || 255 < mark || steps == 100000 {
+        return unfit(steps);
+    }
+    let mut k = 0;
+    while k < 12 {
+        let c = number_at(line, k + 2);
+        if 255 < c {
+            return unfit(steps);
+        }
+        points[k] = c as u8;
+        k += 1;
+    }
+    let curve = Curve {
+        points,
+        steps,
+        mark: mark as u8,
+    };
+    Read { curve, fits: true }
+}
+
+// What a line that does not fit is read as.
+fn unfit(steps: u32) -> Read
+    ensures { λ r. ⌜ r .fits ≡ false ⌝ }
+{
+    let curve = Curve {
+        points: [0u8; 12],
+        steps,
+        mark: 0,
+    };
+    Read { curve, fits: false }
+}
+
+// The number that refuses a curve line that does not fit: a coordinate that is no byte is not below any side.
+pub fn refusal_of(line: &[u8]) -> u32
+    requires { ⌜ 70 ≤ length (now line) ⌝ }
+    ensures { λ r. ⌜ r ≡ unfitRefusal (now (line .entry)) ⌝ }
+{
+    if some_bad(line) {
+        return 42;
+    }
+    let mark = number_at(line, 0);
+    if mark == 0 || 255 < mark {
+        return 12;
+    }
+    if scan::refusal::is_count_out(512, number_at(line, 1)) {
+        return 13;
+    }
+    14
+}
+
+// Some field of a curve line is bad.
+fn some_bad(line: &[u8]) -> bool
+    requires { ⌜ 70 ≤ length (now line) ⌝ }
+    ensures { λ r. ⌜ r ≡ someBad 14 (now (line .entry)) ⌝ }
+{
+    let mut k = 0;
+    while k < 14 {
+        if number_at(line, k) == 100000 {
+            return true;
+        }
+        k += 1;
+    }
+    false
+}
