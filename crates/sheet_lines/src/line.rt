@@ -5,7 +5,7 @@ ghost use Prim.Native.Nat.{_+_, _*_, _≤_};
 ghost use lib.ListN.{length};
 ghost use Rattle.curve.specs.Curve.{curveOf};
 ghost use Rattle.sheet.specs.Line.{field, isWrong, someBad};
-ghost use Rattle.sheet.specs.Sheet.{strokeOf, objectOf};
+ghost use Rattle.sheet.specs.Sheet.{markOut, strokeOf, objectOf};
 ghost use Rattle.sheet_lines.specs.Read.{readField, firstLine, fits, unfitRefusal};
 use crate::field::number;
 use curve::Curve;
@@ -28,14 +28,15 @@ pub fn is_line(rest: &[u8], fields: usize) -> bool
     if rest.len() <= last {
         return false;
     }
+    let mut broken = false;
     let mut i = 0;
     while i < last {
         if rest[i] == b'\n' {
-            return false;
+            broken = true;
         }
         i += 1;
     }
-    rest[last] == b'\n'
+    !broken && rest[last] == b'\n'
 }
 
 // A curve line as read: its curve, if every field is good, the mark from 1 to 255 and every coordinate a byte.
@@ -51,16 +52,19 @@ pub fn read_curve(line: &[u8]) -> Read
     ensures { λ r. ⌜ (r .fits ≡ true → curveOf (r .curve) ≡ objectOf (strokeOf (now (line .entry)))) ⌝ }
 {
     let mark = number_at(line, 0);
-    let steps = number_at(line, 1);
-    let mut points = [0u8; 12];
-    if mark == 0 || 255 < mark || steps == 100000 {
-        return unfit(steps);
+    if is_mark_out(mark) {
+        return unfit();
     }
+    let steps = number_at(line, 1);
+    if steps == 100000 {
+        return unfit();
+    }
+    let mut points = [0u8; 12];
     let mut k = 0;
     while k < 12 {
         let c = number_at(line, k + 2);
         if 255 < c {
-            return unfit(steps);
+            return unfit();
         }
         points[k] = c as u8;
         k += 1;
@@ -74,15 +78,22 @@ pub fn read_curve(line: &[u8]) -> Read
 }
 
 // What a line that does not fit is read as.
-fn unfit(steps: u32) -> Read
+fn unfit() -> Read
     ensures { λ r. ⌜ r .fits ≡ false ⌝ }
 {
     let curve = Curve {
         points: [0u8; 12],
-        steps,
+        steps: 0,
         mark: 0,
     };
     Read { curve, fits: false }
+}
+
+// The mark is 0 or above 255.
+fn is_mark_out(mark: u32) -> bool
+    ensures { λ r. ⌜ r ≡ markOut mark ⌝ }
+{
+    mark == 0 || 255 < mark
 }
 
 // The number that refuses a curve line that does not fit: a coordinate that is no byte is not below any side.
@@ -93,8 +104,7 @@ pub fn refusal_of(line: &[u8]) -> u32
     if some_bad(line) {
         return 42;
     }
-    let mark = number_at(line, 0);
-    if mark == 0 || 255 < mark {
+    if is_mark_out(number_at(line, 0)) {
         return 12;
     }
     if scan::refusal::is_count_out(512, number_at(line, 1)) {
