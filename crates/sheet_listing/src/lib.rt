@@ -1,0 +1,115 @@
+// The listing of a colour cube as text, in parts, and the refusal line.
+mod cells;
+mod number;
+
+ghost use mathlib.Core.Path.{_≡_};
+ghost use Prim.Native.Nat.{_+_, _*_, _-_, _≤_, _<_};
+ghost use lib.ListN.{length, take};
+ghost use Rattle.decide.specs.Refusal.{firstThat};
+ghost use Rattle.cube.specs.Cube.{volume};
+ghost use Rattle.sheet.specs.Printed.{refusalLine};
+ghost use Rattle.sheet.specs.Part.{part, partOrder, lineOrder};
+ghost use Rattle.sheet_listing.specs.Puts.{Puts};
+ghost use Rattle.sheet_listing.specs.Writes.{Writes};
+
+// The number of bytes written, or the refusal's number.
+pub enum Written {
+    Bytes(usize),
+    Refused(u32),
+}
+
+// The first plane that is not listed yet, and the number of bytes written.
+pub struct Planes {
+    pub next: usize,
+    pub bytes: usize,
+}
+
+// Writes the part of the cube's listing for count places from byte first on. Refused: 11, 21, 22.
+pub fn list_part(side: u32, cube: &[u8], first: usize, count: usize, text: &mut [u8]) -> Written
+    ensures { λ r. ⌜ Writes
+        (firstThat (partOrder side count (length (now (cube .entry))) (length (now (text .entry)))))
+        (part side first count (now (cube .entry))) (now (text .entry)) (now (text .exit)) r ⌝ }
+{
+    if side < 2 || 64 < side {
+        return Written::Refused(11);
+    }
+    let s = side as usize;
+    if cube.len() != s * s * s {
+        return Written::Refused(21);
+    }
+    if text.len() / 21 <= count {
+        return Written::Refused(22);
+    }
+    Written::Bytes(put_part(s, cube, first, count, text, 0))
+}
+
+// Writes the refusal line. Refused: 22.
+pub fn refusal_line(number: u32, line: u32, text: &mut [u8]) -> Written
+    ensures { λ r. ⌜ Writes (firstThat (lineOrder (length (now (text .entry))))) (refusalLine number line)
+        (now (text .entry)) (now (text .exit)) r ⌝ }
+{
+    if text.len() < 18 {
+        return Written::Refused(22);
+    }
+    let after_word = number::put_bytes(b"REFUSED", text, 0);
+    let after_number = number::put_number(number, text, after_word);
+    let after_line = number::put_number(line, text, after_number);
+    text[after_line] = b'\n';
+    Written::Bytes(after_line + 1)
+}
+
+// Writes the listing of whole planes from plane z on, while there is room for one more with every cell marked.
+pub fn list_planes(side: u32, cube: &[u8], z: usize, text: &mut [u8]) -> Planes
+    requires { ⌜ (2 ≤ side) × (side ≤ 40) ⌝ }
+    requires { ⌜ length (now cube) ≡ volume side ⌝ }
+    requires { ⌜ z < side ⌝ }
+    requires { ⌜ 33621 ≤ length (now text) ⌝ }
+    ensures { λ r. ⌜ (z < r .next) × (r .next ≤ side) × (r .bytes ≤ length (now (text .exit))) ⌝ }
+    ensures { λ r. ⌜ take (r .bytes) (now (text .exit)) ≡
+        part side (side * side * z) (side * side * (r .next - z)) (now (cube .entry)) ⌝ }
+    ensures { λ _. ⌜ length (now (text .exit)) ≡ length (now (text .entry)) ⌝ }
+{
+    let s = side as usize;
+    let plane = s * s;
+    let room = 21 * (plane + 1);
+    let mut bytes = put_part(s, cube, plane * z, plane, text, 0);
+    let mut next = z + 1;
+    while next < s && room <= text.len() - bytes {
+        bytes = put_part(s, cube, plane * next, plane, text, bytes);
+        next += 1;
+    }
+    Planes { next, bytes }
+}
+
+// The part for count places from byte first on, written from byte start of the text on.
+fn put_part(
+    side: usize,
+    cube: &[u8],
+    first: usize,
+    count: usize,
+    text: &mut [u8],
+    start: usize,
+) -> usize
+    requires { ⌜ (2 ≤ side) × (side ≤ 64) ⌝ }
+    requires { ⌜ length (now cube) ≡ volume side ⌝ }
+    requires { ⌜ start + 21 * (count + 1) ≤ length (now text) ⌝ }
+    ensures { λ r. ⌜ Puts (part side first count (now (cube .entry))) start (now (text .entry)) (now (text .exit)) r ⌝ }
+{
+    let n = places(cube.len(), first, count);
+    let mut at = start;
+    if first == 0 {
+        at = number::put_bytes(b"    X    Y    Z MARK\n", text, at);
+    }
+    cells::put_cells(side, cube, first, n, text, at)
+}
+
+// How many of count places from byte first on there are.
+fn places(bytes: usize, first: usize, count: usize) -> usize
+    ensures { λ r. ⌜ (r ≤ count) × (r ≤ bytes - first) ⌝ }
+{
+    if bytes <= first {
+        return 0;
+    }
+    let left = bytes - first;
+    if left < count { left } else { count }
+}
