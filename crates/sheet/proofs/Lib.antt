@@ -4,3 +4,4 @@ pub mod Known
 pub mod Numbers
 pub mod Sheet
 pub mod Printed
+pub mod Parts

@@ -28,7 +28,7 @@ length-cellLine S p mark = at (eqb mark 0)
     at true = refl
     at false = length-asLine (p % S ∷ p / S % S ∷ p / (S * S) ∷ mark ∷ [])
 
-length-cellLines : (S p : ℕ) (grid : List ℕ) → length (cellLines S p grid) ≡ 21 * markedCells grid
+pub length-cellLines : (S p : ℕ) (grid : List ℕ) → length (cellLines S p grid) ≡ 21 * markedCells grid
 unfolding cellLines markedCells
 length-cellLines S p [] = refl
 length-cellLines S p (mark ∷ grid) =

@@ -8,19 +8,19 @@ ghost use Rattle.sheet.specs.Line.{asLine};
 ghost use Rattle.sheet.specs.Printed.{cellLines};
 ghost use Rattle.sheet_listing.specs.Puts.{Puts};
 ghost use Rattle.sheet_listing.specs.Row.{rowLines};
+use crate::number::lesser;
 use crate::number::put_number;
 
 // The line of a marked cell.
-fn put_cell(x: u8, y: u8, z: u8, mark: u8, text: &mut [u8], at: usize) -> usize
+fn put_cell(x: u8, y: u8, z: u8, mark: u8, text: &mut [u8], at: usize)
     requires { ⌜ at + 21 ≤ length (now text) ⌝ }
-    ensures { λ r. ⌜ Puts (asLine (x ∷ y ∷ z ∷ mark ∷ [])) at (now (text .entry)) (now (text .exit)) r ⌝ }
+    ensures { λ _. ⌜ Puts (asLine (x ∷ y ∷ z ∷ mark ∷ [])) at (now (text .entry)) (now (text .exit)) (at + 21) ⌝ }
 {
-    let after_x = put_number(wide(x), text, at);
-    let after_y = put_number(wide(y), text, after_x);
-    let after_z = put_number(wide(z), text, after_y);
-    let after_mark = put_number(wide(mark), text, after_z);
-    text[after_mark] = b'\n';
-    after_mark + 1
+    put_number(wide(x), text, at);
+    put_number(wide(y), text, at + 5);
+    put_number(wide(z), text, at + 10);
+    put_number(wide(mark), text, at + 15);
+    text[at + 20] = b'\n';
 }
 
 fn wide(x: u8) -> u32
@@ -40,7 +40,8 @@ fn put_row(marks: &[u8], x: usize, y: u8, z: u8, text: &mut [u8], start: usize) 
     while i < marks.len() {
         let mark = marks[i];
         if mark != 0 {
-            at = put_cell((x + i) as u8, y, z, mark, text, at);
+            put_cell((x + i) as u8, y, z, mark, text, at);
+            at += 21;
         }
         i += 1;
     }
@@ -70,7 +71,7 @@ pub(crate) fn put_cells(
     let mut p = first;
     let mut at = start;
     while p < end {
-        let stop = earlier(p + (side - x), end);
+        let stop = lesser(p + (side - x), end);
         at = put_row(&cube[p..stop], x, y as u8, z as u8, text, at);
         p = stop;
         x = 0;
@@ -81,8 +82,4 @@ pub(crate) fn put_cells(
         }
     }
     at
-}
-
-fn earlier(a: usize, b: usize) -> usize {
-    if a < b { a } else { b }
 }

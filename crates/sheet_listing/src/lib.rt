@@ -3,14 +3,15 @@ mod cells;
 mod number;
 
 ghost use mathlib.Core.Path.{_≡_};
-ghost use Prim.Native.Nat.{_+_, _*_, _-_, _≤_, _<_};
-ghost use lib.ListN.{length, take};
+ghost use Prim.Native.Nat.{_+_, _*_, _-_, _≤_, _<_, min};
+ghost use lib.ListN.{length};
 ghost use Rattle.decide.specs.Refusal.{firstThat};
 ghost use Rattle.cube.specs.Cube.{volume};
 ghost use Rattle.sheet.specs.Printed.{refusalLine};
 ghost use Rattle.sheet.specs.Part.{part, partOrder, lineOrder};
 ghost use Rattle.sheet_listing.specs.Puts.{Puts};
 ghost use Rattle.sheet_listing.specs.Writes.{Writes};
+ghost use Rattle.sheet_listing.specs.ByPlane.{ListsPlanes};
 
 // The number of bytes written, or the refusal's number.
 pub enum Written {
@@ -51,11 +52,11 @@ pub fn refusal_line(number: u32, line: u32, text: &mut [u8]) -> Written
     if text.len() < 18 {
         return Written::Refused(22);
     }
-    let after_word = number::put_bytes(b"REFUSED", text, 0);
-    let after_number = number::put_number(number, text, after_word);
-    let after_line = number::put_number(line, text, after_number);
-    text[after_line] = b'\n';
-    Written::Bytes(after_line + 1)
+    number::put_bytes(b"REFUSED", text, 0);
+    number::put_number(number, text, 7);
+    number::put_number(line, text, 12);
+    text[17] = b'\n';
+    Written::Bytes(18)
 }
 
 // Writes the listing of whole planes from plane z on, while there is room for one more with every cell marked.
@@ -64,10 +65,7 @@ pub fn list_planes(side: u32, cube: &[u8], z: usize, text: &mut [u8]) -> Planes
     requires { ⌜ length (now cube) ≡ volume side ⌝ }
     requires { ⌜ z < side ⌝ }
     requires { ⌜ 33621 ≤ length (now text) ⌝ }
-    ensures { λ r. ⌜ (z < r .next) × (r .next ≤ side) × (r .bytes ≤ length (now (text .exit))) ⌝ }
-    ensures { λ r. ⌜ take (r .bytes) (now (text .exit)) ≡
-        part side (side * side * z) (side * side * (r .next - z)) (now (cube .entry)) ⌝ }
-    ensures { λ _. ⌜ length (now (text .exit)) ≡ length (now (text .entry)) ⌝ }
+    ensures { λ r. ⌜ ListsPlanes side (now (cube .entry)) z (length (now (text .entry))) (now (text .exit)) r ⌝ }
 {
     let s = side as usize;
     let plane = s * s;
@@ -105,11 +103,10 @@ fn put_part(
 
 // How many of count places from byte first on there are.
 fn places(bytes: usize, first: usize, count: usize) -> usize
-    ensures { λ r. ⌜ (r ≤ count) × (r ≤ bytes - first) ⌝ }
+    ensures { λ r. ⌜ r ≡ min count (bytes - first) ⌝ }
 {
     if bytes <= first {
         return 0;
     }
-    let left = bytes - first;
-    if left < count { left } else { count }
+    number::lesser(count, bytes - first)
 }

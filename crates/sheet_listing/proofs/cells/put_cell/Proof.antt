@@ -1,0 +1,87 @@
+-- `put_cell` meets its contract: four numbers and a line feed, one after another.
+use borrow.Author.Needs.{needs}
+use native.Mathlib.Nat.{add-assoc}
+use native.Mathlib.Omega.{arith}
+use Rattle.sheet.specs.Line.{asLine}
+use Rattle.sheet_listing.proofs.Puts.{puts-byte, puts-append, puts-length}
+use Rattle.sheet_listing.proofs.cells.put_cell.Statement.{statement}
+use Rattle.sheet_listing.proofs.cells.put_cell.Tie as tie
+use Rattle.sheet_listing.proofs.cells.put_cell.Reads as reads
+use Rattle.sheet_listing.proofs.cells.put_cell.Lts as lts
+use Rattle.sheet_listing.proofs.cells.wide.Reads as wide-reads
+use Rattle.sheet_listing.proofs.number.put_number.Reads as put-number-reads
+
+wide-requires : tie.Need-wide-requires
+wide-requires c κs = search needs
+
+put-number-requires : tie.Need-put-number-requires
+put-number-requires c κs = search needs
+
+wide-requires-2 : tie.Need-wide-requires-2
+wide-requires-2 c κs = search needs
+
+add-put-number : tie.Need-add-put-number
+add-put-number c = search needs
+
+put-number-requires-2 : tie.Need-put-number-requires-2
+put-number-requires-2 c κs = search needs
+
+wide-requires-3 : tie.Need-wide-requires-3
+wide-requires-3 c κs = search needs
+
+add-put-number-2 : tie.Need-add-put-number-2
+add-put-number-2 c = search needs
+
+put-number-requires-3 : tie.Need-put-number-requires-3
+put-number-requires-3 c κs = search needs
+
+wide-requires-4 : tie.Need-wide-requires-4
+wide-requires-4 c κs = search needs
+
+add-put-number-3 : tie.Need-add-put-number-3
+add-put-number-3 c = search needs
+
+put-number-requires-4 : tie.Need-put-number-requires-4
+put-number-requires-4 c κs = search needs
+
+add-text : tie.Need-add-text
+add-text c = search needs
+
+slice-write-text : tie.Need-slice-write-text
+slice-write-text c = search needs
+
+returns : tie.Need-returns
+unfolding asLine
+returns c =
+    let m = c .before .before in
+    let z = m .before .before .before .before .before in
+    let y = z .before .before .before .before .before in
+    let x = y .before .before .before .before .before in
+    puts-append (rw (x .before .before .wide .ensures) at (x .put-number .ensures))
+    (puts-append (rw (y .before .before .wide2 .ensures, add-assoc) at (y .put-number2 .ensures))
+    (puts-append (rw (z .before .before .wide3 .ensures, add-assoc) at (z .put-number3 .ensures))
+    (puts-append (rw (m .before .before .wide4 .ensures, add-assoc) at (m .put-number4 .ensures))
+    (puts-byte (omega arith)))))
+
+same-length : tie.Need-same-length
+same-length c = puts-length (returns c)
+
+pub put-cell-spec : {M : Type 1} → statement M
+put-cell-spec =
+    tie.close
+    (tie.spec
+    wide-requires
+    put-number-requires
+    wide-requires-2
+    add-put-number
+    put-number-requires-2
+    wide-requires-3
+    add-put-number-2
+    put-number-requires-3
+    wide-requires-4
+    add-put-number-3
+    put-number-requires-4
+    add-text
+    slice-write-text
+    same-length
+    returns)

@@ -1,0 +1,74 @@
+-- `refusal_line` meets its contract: the word, two numbers and a line feed, one after another.
+use borrow.Author.Needs.{needs}
+use borrow.Author.Tests.{lt-ltb, le-ltb}
+use mathlib.Core.Path.{_≡_, refl}
+use lib.ListN.{set}
+use denote.Ref.{now}
+use Rattle.decide.specs.Refusal.{firstThat}
+use Rattle.sheet.specs.Line.{asLine}
+use Rattle.sheet.specs.Printed.{refusalLine}
+use Rattle.sheet.specs.Part.{lineOrder}
+use Rattle.sheet.proofs.Printed.{length-refusalLine}
+use Rattle.sheet_listing.specs.Puts.{Puts}
+use Rattle.sheet_listing.proofs.Puts.{puts-byte, puts-append, puts-next, puts-length}
+use Rattle.sheet_listing.proofs.Writes.{writes-accepted, writes-refused}
+use Rattle.sheet_listing.proofs.refusal_line.Statement.{statement}
+use Rattle.sheet_listing.proofs.refusal_line.Tie as tie
+use Rattle.sheet_listing.proofs.refusal_line.Reads as reads
+use Rattle.sheet_listing.proofs.refusal_line.Lts as lts
+use Rattle.sheet_listing.proofs.number.put_bytes.Reads as put-bytes-reads
+use Rattle.sheet_listing.proofs.number.put_number.Reads as put-number-reads
+
+returns : tie.Need-returns
+unfolding firstThat lineOrder
+returns c = writes-refused (simp (lt-ltb _ _ (c .if1 .taken)))
+
+slice-aggregate-put-bytes : tie.Need-slice-aggregate-put-bytes
+slice-aggregate-put-bytes c = search needs
+
+put-bytes-requires : tie.Need-put-bytes-requires
+put-bytes-requires c κs = search needs
+
+put-number-requires : tie.Need-put-number-requires
+put-number-requires c κs = search needs
+
+put-number-requires-2 : tie.Need-put-number-requires-2
+put-number-requires-2 c κs = search needs
+
+slice-write-text : tie.Need-slice-write-text
+slice-write-text c = search needs
+
+abbrev start : tie.After-slice-known4 → tie.Start
+start c = c .before .before .before .before .before .before .before .before .before .before .before .before .before .before .before
+
+-- The whole line.
+line : (c : tie.After-slice-known4) →
+    let a = start c .args in
+    Puts (refusalLine (a .number) (a .line)) 0 (now (a .text)) (set (c .before .before .put-number2 .last .1 .0) 17 10) 18
+unfolding refusalLine asLine
+line c =
+    let n = c .before .before .before .before .before .before in
+    puts-append (puts-next (n .before .before .before .before .put-bytes .ensures) refl)
+    (puts-append (n .put-number .ensures) (puts-append (c .before .before .put-number2 .ensures) (puts-byte refl)))
+
+same-length : tie.Need-same-length
+same-length c = puts-length (line c)
+
+returns-2 : tie.Need-returns-2
+unfolding firstThat lineOrder
+returns-2 c =
+    let long = c .before .before .before .before .before .before .before .before .before .before .before .before .before .if1 .left in
+    writes-accepted (simp (le-ltb _ _ long)) (rw length-refusalLine long) (line c)
+
+pub refusal-line-spec : {M : Type 1} → statement M
+refusal-line-spec =
+    tie.close
+    (tie.spec
+    returns
+    slice-aggregate-put-bytes
+    put-bytes-requires
+    put-number-requires
+    put-number-requires-2
+    slice-write-text
+    same-length
+    returns-2)
