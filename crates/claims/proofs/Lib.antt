@@ -1,8 +1,11 @@
 -- `Known`: K1 to K12 hold. `Turns`: the list argument, for calls of any kind. `Demand3`: demand 3 holds. `Strokes`:
--- its form for a stroke sheet. `Calls`: calls to the functions that draw are its calls. `Instances`: small computed cases, which show that demand 3 speaks of something.
+-- its form for a stroke sheet. `Calls`: calls to the functions that draw are its calls. `Sheets`: an
+-- accepted sheet call is a list of its own. `Instances`: small computed cases, which show that demand 3 speaks of
+-- something.
 pub mod Known
 pub mod Turns
 pub mod Demand3
 pub mod Strokes
 pub mod Instances
 pub mod Calls
+pub mod Sheets

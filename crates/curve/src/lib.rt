@@ -1,6 +1,6 @@
 // Curves: checked, listed and drawn by Kaufman's FAST_CURVE.
 
-mod samples;
+pub mod samples;
 mod steps;
 
 ghost use mathlib.Core.Path.{_≡_};

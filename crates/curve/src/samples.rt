@@ -46,7 +46,7 @@ fn start_walker(curve: Curve, h: Strides) -> Walker
 }
 
 // Marks the cells of an accepted curve's samples.
-pub(crate) fn mark_samples(side: u32, curve: Curve, grid: &mut [u8])
+pub fn mark_samples(side: u32, curve: Curve, grid: &mut [u8])
     requires { ⌜ drawVerdict side (length (now grid)) (curveOf curve) ≡ accepted ⌝ }
     ensures { λ _. ⌜ now (grid .exit) ≡ drawn side (curveOf curve) (now (grid .entry)) ⌝ }
 {

@@ -40,7 +40,7 @@ first-prefix (b ∷ bs) = ap (b ∷_) (by-test (eqb b 10) (firstLine bs) (first-
     by-test false l later = later
 
 -- It is no longer than the input,
-first-within : (rest : List ℕ) → length (firstLine rest) ≤ length rest
+pub first-within : (rest : List ℕ) → length (firstLine rest) ≤ length rest
 unfolding firstLine
 first-within [] = lit≤ tt
 first-within (b ∷ bs) = by-test (eqb b 10) (firstLine bs) (first-within bs)

@@ -1,0 +1,22 @@
+-- The contract of the sheet function says of an accepted call that the buffer's cube is the drawing of its strokes.
+use mathlib.Core.Path.{_≡_, _∙_}
+use mathlib.Core.List.{List}
+use Prim.Native.Nat.{ℕ}
+use Rattle.sheet.specs.Call.{drew}
+use Rattle.sheet_cube.specs.declared.Answer.{Answer}
+use Rattle.sheet_cube.specs.Answer.{saidOf, DrawsSheet}
+use Rattle.sheet_cube.proofs.Called.{called-accepted}
+use Rattle.claims.specs.Sheets.{SheetDrawn}
+use Rattle.claims.proofs.Strokes.{strokes-drawn, sheet-cube}
+
+pub sheet-drawn : {input buffer bufferNow : List ℕ} {r : Answer} {S n : ℕ} →
+    DrawsSheet input buffer bufferNow r → saidOf r ≡ drew S n → SheetDrawn input bufferNow S n
+sheet-drawn {S = S} d e =
+    let a = called-accepted d e in
+    record {
+      strokes = a .strokes;
+      judged = a .judged;
+      count = a .count;
+      holds = a .cube ∙ sheet-cube S (a .strokes);
+      drawn = strokes-drawn S (a .strokes);
+    }

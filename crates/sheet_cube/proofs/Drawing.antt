@@ -1,0 +1,167 @@
+-- The drawing of a good sheet: what is left to draw, drawn into the cube so far, gives the sheet's cube.
+use mathlib.Core.Path.{_≡_, refl, sym, _∙_, ap, subst}
+use mathlib.Core.List.{List, [], _∷_, _++_, map, append-nil}
+use Prim.Native.Nat.{ℕ, suc, _+_, _*_, _≤_, _<_}
+use native.Mathlib.Omega.{arith}
+use lib.ListN.{length, take, drop, length-drop, drop-of-length-le, replicate, length-replicate}
+use lib.Seq.{drop-drop}
+use Rattle.decide.specs.Refusal.{accepted, firstThat}
+use Rattle.decide.proofs.Refusal.{by-verdict}
+use Rattle.cube.specs.Cube.{volume}
+use Rattle.drawing.specs.Drawing.{drawn, inTurn}
+use Rattle.drawing.proofs.Drawn.{length-drawn}
+use Rattle.sheet.specs.Line.{lines, number}
+use Rattle.sheet.specs.Sheet.{Stroke, strokeOf, objectOf, sideOrder, curveOrder, Judged, good, bad, judgeCurves, judge}
+use Rattle.sheet.specs.Printed.{cubeOf}
+use Rattle.sheet.specs.Call.{Said, drew, refused, said, bufferAfter}
+use Rattle.sheet_lines.specs.Read.{firstLine}
+use Rattle.sheet_cube.proofs.Judged.{Passes, passes, passes-side, side-refused, side-accepted, strokesOf, Left, good-first, good-all, good≢bad}
+use Rattle.sheet_cube.proofs.Judged.{by-emptiness, rest-lines, left-start, left-more, line-within}
+use Rattle.sheet_lines.proofs.Lines.{first-prefix}
+
+-- A sheet that is answered a side and a number of curve lines is good, of that side and with so many strokes.
+pub record IsGood (j : Judged) (S n : ℕ) : Type 0 where
+  pub strokes : List Stroke
+  pub good : j ≡ good S strokes
+  pub count : length strokes ≡ n
+
+abbrev sideOf : Said → ℕ
+sideOf (drew S n) = S
+sideOf (refused n k) = 0
+
+abbrev curvesOf : Said → ℕ
+curvesOf (drew S n) = n
+curvesOf (refused n k) = 0
+
+abbrev isDrew : Said → Type 0
+isDrew (drew S n) = Unit
+isDrew (refused n k) = ⊥
+
+pub is-good : (j : Judged) {S n : ℕ} → said j ≡ drew S n → IsGood j S n
+is-good (good R l) e = record { strokes = l; good = ap (λ s. good (sideOf s) l) e; count = ap curvesOf e }
+is-good (bad n k) e = absurd (subst isDrew (sym e) tt)
+
+abbrev sideIn : Judged → ℕ
+sideIn (good S l) = S
+sideIn (bad n k) = 0
+
+abbrev strokesIn : Judged → List Stroke
+strokesIn (good S l) = l
+strokesIn (bad n k) = []
+
+empty : (l : List (List ℕ)) → length l ≡ 0 → l ≡ []
+empty [] e = refl
+empty (x ∷ xs) e = absurd (omega (arith, e))
+
+at-next : (i : ℕ) → 6 + 71 * i + 71 ≡ 6 + 71 * suc i
+at-next i = omega arith
+
+line-next : (i : ℕ) → suc (i + 2) ≡ suc i + 2
+line-next i = omega arith
+
+-- A good sheet.
+pub record GoodSheet (input : List ℕ) (S n : ℕ) : Type 0 where
+  pub side-least : 2 ≤ S
+  pub side-most : S ≤ 40
+  pub judged : judge input ≡ good S (strokesOf input)
+  pub left : Left input S 6 2
+  pub count : length (strokesOf input) ≡ n
+
+pub good-sheet : (input : List ℕ) {S n : ℕ} → said (judge input) ≡ drew S n → GoodSheet input S n
+good-sheet input {S} {n} e =
+    let g = is-good (judge input) e in
+    by-verdict (firstThat (sideOrder (firstLine input))) (GoodSheet input S n)
+    (λ a.
+    let R : ℕ = number (firstLine input) 0 in
+    let s = side-accepted input a in
+    let all : good R (strokesOf input) ≡ good S (g .strokes) = good-all R 2 _ (lines (drop 6 input)) (sym s ∙ g .good) in
+    let side : R ≡ S = ap sideIn all in
+    let these : strokesOf input ≡ g .strokes = ap strokesIn all in
+    record {
+      side-least = rw (← side) (passes-side input a .least);
+      side-most = rw (← side) (passes-side input a .most);
+      judged = g .good ∙ ap (good S) (sym these);
+      left = left-start input S a side;
+      count = ap length these ∙ g .count;
+    })
+    (λ k r. absurd (good≢bad (sym (g .good) ∙ side-refused input r)))
+
+-- What is left of a sheet after line 1 and i curve lines.
+abbrev pub rest : (input : List ℕ) (i : ℕ) → List ℕ
+rest input i = drop (6 + 71 * i) input
+
+-- With i curve lines drawn: the cube, and what is left to draw.
+pub record DrawnSoFar (input : List ℕ) (S i : ℕ) (cube : List ℕ) : Type 0 where
+  pub left : Left input S (6 + 71 * i) (i + 2)
+  pub turn :
+      inTurn (λ s. drawn S (objectOf s)) (map strokeOf (lines (rest input i))) cube ≡ cubeOf S (strokesOf input)
+  pub whole : length cube ≡ volume S
+
+module _ {input : List ℕ} {S n : ℕ} (sheet : GoodSheet input S n) where
+  pub none-drawn : (cube : List ℕ) → length cube ≡ volume S → DrawnSoFar input S 0 (replicate (length cube) 0)
+  unfolding cubeOf
+  none-drawn cube e = record {
+    left = sheet .left;
+    turn = ap (λ v. inTurn (λ s. drawn S (objectOf s)) (strokesOf input) (replicate v 0)) e;
+    whole = length-replicate _ 0 ∙ e;
+  }
+
+  -- All are drawn.
+  pub all-drawn : {cube : List ℕ} → DrawnSoFar input S n cube → cube ≡ cubeOf S (strokesOf input)
+  unfolding inTurn
+  all-drawn d =
+      let l : length (lines (rest input n)) ≡ 0 = omega (arith, d .left .count, sheet .count) in
+      rw (empty (lines (rest input n)) l) at (d .turn)
+
+  -- A buffer that is the cube alone holds nothing else afterwards.
+  pub whole-buffer : (cube : List ℕ) → length cube ≡ volume S → cubeOf S (strokesOf input) ≡ bufferAfter (judge input) cube
+  whole-buffer cube e =
+      sym (append-nil (cubeOf S (strokesOf input))) ∙
+      ap (cubeOf S (strokesOf input) ++_) (sym (drop-of-length-le cube (fits e))) ∙
+      ap (λ j. bufferAfter j cube) (sym (sheet .judged))
+    where
+      fits : {a b : ℕ} → a ≡ b → a ≤ b
+      fits e = omega (arith, e)
+
+  -- One more to draw.
+  module _ {i : ℕ} (h : i < n) {cube : List ℕ} (d : DrawnSoFar input S i cube) where
+    abbrev pub line : List ℕ
+    line = firstLine (rest input i)
+
+    rest-there : 0 < length (rest input i)
+    unfolding lines
+    rest-there =
+        by-emptiness (rest input i)
+        (λ z. absurd (omega (arith, h, sheet .count, d .left .count, ap (λ r. length (lines r)) z)))
+        (λ l. l)
+
+    pub at-line : 6 + 71 * i < length input
+    at-line = omega (arith, rest-there, length-drop (6 + 71 * i) input)
+
+    pub line-accepted : firstThat (curveOrder S (i + 2) line) ≡ accepted
+    line-accepted =
+        good-first S (good S (strokesOf input)) (i + 2) line (lines (drop (length line) (rest input i)))
+        (ap (λ ls. judgeCurves S (i + 2) ls (good S (strokesOf input))) (sym (rest-lines (rest input i) rest-there)) ∙
+        sym (d .left .judged) ∙ sheet .judged) .0
+
+    pub line-passes : Passes S (i + 2) line
+    line-passes = passes line line-accepted
+
+    pub line-there : take 71 (rest input i) ≡ line
+    line-there = ap (λ k. take k (rest input i)) (sym (line-passes .whole)) ∙ sym (first-prefix (rest input i))
+
+    pub line-ends : 6 + 71 * i + 71 ≤ length input
+    line-ends = line-within input S (d .left) at-line line-accepted
+
+    -- It is drawn.
+    pub one-more : DrawnSoFar input S (suc i) (drawn S (objectOf (strokeOf line)) cube)
+    unfolding inTurn
+    one-more =
+        let after : drop (length line) (rest input i) ≡ rest input (suc i) =
+        ap (λ k. drop k (rest input i)) (line-passes .whole) ∙ drop-drop 71 (6 + 71 * i) input ∙ ap (λ k. drop k input) (at-next i) in
+        let two : lines (rest input i) ≡ line ∷ lines (rest input (suc i)) = rw (← after) (rest-lines (rest input i) rest-there) in
+        record {
+          left = rw (← at-next i, ← line-next i) (left-more input S (d .left) at-line line-accepted);
+          turn = rw two at (d .turn);
+          whole = length-drawn S (objectOf (strokeOf line)) cube ∙ d .whole;
+        }

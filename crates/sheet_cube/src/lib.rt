@@ -1,0 +1,45 @@
+// Stroke sheets: judged line by line, then drawn.
+
+mod draw;
+mod judge;
+
+ghost use Rattle.sheet_cube.specs.Answer.{DrawsSheet};
+
+// The side of a sheet's cube and the number of its curve lines.
+pub struct Size {
+    pub side: u32,
+    pub curves: u32,
+}
+
+// A refusal's number and the line that is refused.
+pub struct Refusal {
+    pub number: u32,
+    pub line: u32,
+}
+
+// What a sheet call answers.
+pub enum Answer {
+    Drawn(Size),
+    Refused(Refusal),
+}
+
+// Draws a sheet into the first S × S × S bytes of the buffer, once every line is judged. Refused: 21 with line 0, and
+// the numbers of lines.
+pub fn draw_sheet(input: &[u8], buffer: &mut [u8]) -> Answer
+    ensures { λ r. ⌜ DrawsSheet (now (input .entry)) (now (buffer .entry)) (now (buffer .exit)) r ⌝ }
+{
+    if buffer.len() != 64000 {
+        return Answer::Refused(Refusal {
+            number: 21,
+            line: 0,
+        });
+    }
+    match judge::judge_sheet(input) {
+        Answer::Refused(refusal) => Answer::Refused(refusal),
+        Answer::Drawn(size) => {
+            let cells = draw::cells(size.side);
+            draw::draw_lines(input, size, &mut buffer[..cells]);
+            Answer::Drawn(size)
+        }
+    }
+}
