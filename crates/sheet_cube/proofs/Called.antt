@@ -7,7 +7,7 @@ use native.Mathlib.Nat.{mul-le-mul}
 use native.Mathlib.Omega.{arith}
 use lib.Dec.{eqb}
 use borrow.Author.Tests.{ne-eqb}
-use lib.ListN.{length, take, drop, replicate, length-replicate}
+use lib.ListN.{length, take, drop, length-take, replicate, length-replicate}
 use lib.Seq.{take-at, length-take-le}
 use Rattle.decide.proofs.Truth.{decided, equal}
 use Rattle.cube.specs.Cube.{volume}
@@ -83,6 +83,18 @@ module _ {input buffer bufferNow : List ℕ} {r : Answer} (d : DrawsSheet input 
             ap (take (volume S)) (d .leaves ∙ ap (λ j. bufferAfter j buffer) (g .good)) ∙
             take-at (cubeOf S (g .strokes)) (drop (volume S) buffer) (volume S) (length-cube S (g .strokes));
       }
+
+  -- Its side, and the room that its cube has.
+  pub side-least : {S n : ℕ} → saidOf r ≡ drew S n → 2 ≤ S
+  side-least e = let a = called-accepted e in good-sheet input (ap said (a .judged)) .side-least
+
+  pub side-most : {S n : ℕ} → saidOf r ≡ drew S n → S ≤ 40
+  side-most e = let a = called-accepted e in good-sheet input (ap said (a .judged)) .side-most
+
+  pub cube-within : {S n : ℕ} → saidOf r ≡ drew S n → volume S ≤ length bufferNow
+  cube-within {S} e =
+      let a = called-accepted e in
+      omega (arith, ap length (a .cube) ∙ length-cube S (a .strokes), length-take (volume S) bufferNow)
 
   -- The listing of the cube in the buffer is what is printed of an accepted sheet,
   pub accepted-prints : {S n : ℕ} → saidOf r ≡ drew S n → listing S (take (volume S) bufferNow) ≡ output input

@@ -8,15 +8,6 @@ ghost use Rattle.sheet.specs.Call.{drew, said, bufferAfter};
 use crate::Size;
 use sheet_lines::line::read_curve;
 
-// The number of cells of a cube.
-pub(crate) fn cells(side: u32) -> usize
-    requires { ⌜ side ≤ 40 ⌝ }
-    ensures { λ r. ⌜ r ≡ volume side ⌝ }
-{
-    let s = side as usize;
-    s * s * s
-}
-
 // Clears the cube of a good sheet and draws the curve lines in turn.
 pub(crate) fn draw_lines(input: &[u8], size: Size, cube: &mut [u8])
     requires { ⌜ said (judge (now input)) ≡ drew (size .side) (size .curves) ⌝ }

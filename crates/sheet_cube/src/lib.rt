@@ -3,6 +3,9 @@
 mod draw;
 mod judge;
 
+ghost use mathlib.Core.Path.{_≡_};
+ghost use Prim.Native.Nat.{_≤_};
+ghost use Rattle.cube.specs.Cube.{volume};
 ghost use Rattle.sheet_cube.specs.Answer.{DrawsSheet};
 
 // The side of a sheet's cube and the number of its curve lines.
@@ -37,9 +40,18 @@ pub fn draw_sheet(input: &[u8], buffer: &mut [u8]) -> Answer
     match judge::judge_sheet(input) {
         Answer::Refused(refusal) => Answer::Refused(refusal),
         Answer::Drawn(size) => {
-            let cells = draw::cells(size.side);
+            let cells = cells(size.side);
             draw::draw_lines(input, size, &mut buffer[..cells]);
             Answer::Drawn(size)
         }
     }
+}
+
+// The number of cells of a sheet's cube, the bytes that it takes of the buffer.
+pub fn cells(side: u32) -> usize
+    requires { ⌜ side ≤ 40 ⌝ }
+    ensures { λ r. ⌜ r ≡ volume side ⌝ }
+{
+    let s = side as usize;
+    s * s * s
 }

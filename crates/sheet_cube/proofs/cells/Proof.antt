@@ -2,8 +2,8 @@
 use borrow.Author.Needs.{needs}
 use native.Mathlib.Nat.{mul-le-mul}
 use native.Mathlib.Omega.{arith}
-use Rattle.sheet_cube.proofs.draw.cells.Statement.{statement}
-use Rattle.sheet_cube.proofs.draw.cells.Tie as tie
+use Rattle.sheet_cube.proofs.cells.Statement.{statement}
+use Rattle.sheet_cube.proofs.cells.Tie as tie
 
 mul-result : tie.Need-mul-result
 mul-result c = record { fits = omega (arith, mul-le-mul (c .pre) (c .pre)) }

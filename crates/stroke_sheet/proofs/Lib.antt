@@ -1,0 +1,2 @@
+-- `Output`: what is written, in turn, is the output of the input.
+pub mod Output
