@@ -23,19 +23,18 @@ digit-bounds : (d : ℕ) → isDigit d ≡ true → (48 ≤ d) × (d ≤ 57)
 unfolding isDigit
 digit-bounds d e = let b = and-eq-true-iff (leb 48 d) (leb d 57) .0 e in (leb-true 48 d (b .0), leb-true d 57 (b .1))
 
--- The bytes of a list from byte i on, before its end,
 module _ (l : List ℕ) (i : ℕ) (h : i < length l) where
-  -- a blank, which is passed over,
+  -- A blank at byte i is passed over,
   pub blank-passes : getD l i 0 ≡ 32 → afterBlanks (drop i l) ≡ afterBlanks (drop (i + 1) l)
   unfolding afterBlanks
   blank-passes e = ap afterBlanks (left-at l i h) ∙ rw (eq-eqb (getD l i 0) 32 e)
 
-  -- and any other byte, which ends the blanks;
+  -- and any other byte there ends the blanks.
   pub byte-stays : (getD l i 0 ≡ 32 → ⊥) → afterBlanks (drop i l) ≡ drop i l
   unfolding afterBlanks
   byte-stays n = ap afterBlanks (left-at l i h) ∙ rw (ne-eqb (getD l i 0) 32 n, ← left-at l i h)
 
-  -- a byte among digits, of which none is missed,
+  -- What stands from byte i on is digits where that byte is one and the later ones are.
   pub byte-tested : areDigits (drop i l) ≡ (isDigit (getD l i 0) && areDigits (drop (i + 1) l))
   unfolding areDigits
   byte-tested = ap areDigits (left-at l i h)
@@ -45,12 +44,12 @@ module _ (l : List ℕ) (i : ℕ) (h : i < length l) where
       let b = and-eq-true-iff (isDigit (getD l i 0)) (areDigits (drop (i + 1) l)) .0 (sym byte-tested ∙ e) in
       (digit-bounds (getD l i 0) (b .0) .0, b .1)
 
-  -- and a digit that is read.
+  -- A digit is read after the number before it.
   pub digit-read : (n : ℕ) → decimal n (drop i l) ≡ decimal (10 * n + (getD l i 0 - 48)) (drop (i + 1) l)
   unfolding decimal
   digit-read n = ap (decimal n) (left-at l i h)
 
--- and at its end.
+-- At the end no byte is left: no blank, no byte that is no digit, and nothing to read.
 module _ (l : List ℕ) (i : ℕ) (h : length l ≤ i) where
   pub blanks-end : afterBlanks (drop i l) ≡ drop i l
   unfolding afterBlanks
@@ -64,34 +63,34 @@ module _ (l : List ℕ) (i : ℕ) (h : length l ≤ i) where
   unfolding decimal
   read-end n = rw (drop-of-length-le l h)
 
--- No digit.
+-- No byte is no number.
 pub no-digit : (l : List ℕ) → length l ≡ 0 → isNumber l ≡ false
 unfolding isNumber
 no-digit [] e = refl
 no-digit (b ∷ bs) e = absurd (omega arith)
 
--- Digits that do not begin with a zero, or a digit alone.
+-- Where a zero does not lead, being a number is being digits.
 pub no-leading-zero : (l : List ℕ) → 0 < length l → (1 < length l → getD l 0 0 ≡ 48 → ⊥) → isNumber l ≡ areDigits l
 unfolding isNumber areDigits
 no-leading-zero [] h n = absurd (omega arith)
 no-leading-zero (b ∷ []) h n = sym (and-true (isDigit b))
 no-leading-zero (b ∷ c ∷ bs) h n = rw (ne-eqb b 48 (n (omega arith)))
 
--- A leading zero.
+-- Where a zero leads, it is no number.
 pub leading-zero : (l : List ℕ) → 1 < length l → getD l 0 0 ≡ 48 → isNumber l ≡ false
 unfolding isNumber
 leading-zero [] h e = absurd (omega arith)
 leading-zero (b ∷ []) h e = absurd (omega arith)
 leading-zero (b ∷ c ∷ bs) h e = rw (eq-eqb b 48 e)
 
--- A number is made of digits,
+-- A number is made of digits.
 number-digits : (l : List ℕ) → isNumber l ≡ true → areDigits l ≡ true
 unfolding isNumber areDigits
 number-digits [] e = refl
 number-digits (b ∷ []) e = rw e
 number-digits (b ∷ c ∷ bs) e = and-eq-true-iff (not (eqb b 48)) (areDigits (b ∷ c ∷ bs)) .0 e .1
 
--- and what stands after the blanks is no longer than the field.
+-- What stands after the blanks is no longer than the field.
 after-within : (l : List ℕ) → length (afterBlanks l) ≤ length l
 unfolding afterBlanks
 after-within [] = lit≤ tt
@@ -124,13 +123,13 @@ digits-few f = by-test (eqb (length f) 5 && isNumber (afterBlanks f)) (and-eq-tr
         (omega (arith, after-within f), number-digits (afterBlanks f) (g .1))
     by-test false good = (lit≤ tt, refl)
 
--- Digits add to what was read before them,
+-- Digits add to what was read before them.
 pub read-before : (n : ℕ) (l : List ℕ) → n ≤ decimal n l
 unfolding decimal
 read-before n [] = omega arith
 read-before n (d ∷ ds) = omega (arith, read-before (10 * n + (d - 48)) ds)
 
--- and a number of k digits is below 10 ^ k.
+-- A number of k digits after one below b is below b × 10 ^ k.
 decimal-below : (n b : ℕ) (l : List ℕ) → n < b → areDigits l ≡ true → decimal n l < b * 10 ^ length l
 unfolding decimal areDigits
 decimal-below n b [] h e = omega arith
@@ -152,17 +151,17 @@ module _ (f : List ℕ) where
   unfolding valueOf
   value-below = let d = digits-few f in few-below (digitsOf f) (d .0) (d .1)
 
-  -- A good field is read as its value,
+  -- A good field is read as its value.
   pub good-read : isBad f ≡ false → readField f ≡ valueOf f
   unfolding readField
   good-read e = rw e
 
-  -- a bad one as 100000,
+  -- A bad field is read as 100000.
   pub bad-read : isBad f ≡ true → readField f ≡ 100000
   unfolding readField
   bad-read e = rw e
 
-  -- No digit is handed back of a bad field, and of no other.
+  -- A field is bad exactly where it hands back no digit.
   pub no-digits-bad : length (digitsOf f) ≡ 0 → isBad f ≡ true
   unfolding isBad
   no-digits-bad e = eq-eqb (length (digitsOf f)) 0 e
@@ -181,7 +180,7 @@ module _ (f : List ℕ) where
   pub read-most : readField f ≤ 100000
   read-most = by-badness (readField f ≤ 100000) (λ e. omega (arith, bad-read e)) (λ e. omega (arith, good-read e, value-below))
 
-  -- and what is read shows which it was.
+  -- What is read shows whether the field is good.
   pub good-below : (readField f < 100000) ↔ (isBad f ≡ false)
   good-below = (
     λ h. by-badness (isBad f ≡ false) (λ e. absurd (omega (arith, bad-read e))) (λ e. e),

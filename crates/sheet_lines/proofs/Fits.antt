@@ -12,10 +12,11 @@ use Rattle.decide.specs.Some.{someBelow}
 use Rattle.decide.proofs.Truth.{both-false, true-of, false-of, false-iff}
 use Rattle.decide.proofs.Some.{some-below}
 use Rattle.drawing.specs.Object.{curve}
+use Rattle.drawing.specs.Refusals.{countOut}
 use Rattle.sheet.specs.Field.{isBad}
 use Rattle.sheet.specs.Line.{field, number, someBad}
 use Rattle.sheet.specs.Sheet.{markOut, strokeOf, objectOf}
-use Rattle.sheet_lines.specs.Read.{readField, fits}
+use Rattle.sheet_lines.specs.Read.{readField, fits, firstOf, unfitRefusal}
 use Rattle.sheet_lines.proofs.Fields.{value-below, good-read, good-below}
 
 -- No index below n passes.
@@ -62,6 +63,20 @@ module _ (l : List ℕ) where
   -- Every field of a line that fits is read as its value.
   pub fit-read : fits l ≡ true → (k : ℕ) → k < 14 → readField (field l k) ≡ number l k
   fit-read e k h = good-read (field l k) (fields-good 14 .0 (fits-parts .0 e .0) k h)
+
+  -- The number that refuses a line that does not fit, by what is read: where a field is bad, no other number is asked.
+  pub refusal-read :
+      firstOf (someBad 14 l) (markOut (readField (field l 0))) (countOut 512 (readField (field l 1))) ≡ unfitRefusal l
+  unfolding unfitRefusal
+  refusal-read = by-test (someBad 14 l) (fields-good 14 .0)
+    where
+      by-test : (t : Bool) → (t ≡ false → (k : ℕ) → k < 14 → isBad (field l k) ≡ false) →
+          firstOf t (markOut (readField (field l 0))) (countOut 512 (readField (field l 1))) ≡
+          firstOf t (markOut (number l 0)) (countOut 512 (number l 1))
+      by-test true good = refl
+      by-test false good =
+          let read : (k : ℕ) → k < 14 → readField (field l k) ≡ number l k = λ k h. good-read (field l k) (good refl k h) in
+          rw (read 0 (omega arith), read 1 (omega arith))
 
 -- What is read of a line that fits.
 pub record Fitting (l : List ℕ) : Type 0 where
@@ -123,6 +138,18 @@ all-listed f a (x ∷ xs) (suc n) e at =
     let next : suc k + a ≡ k + suc a = omega arith in rw next at (at (suc k) (omega arith))
     in
     rw (rw first at (at 0 (omega arith)), all-listed f (suc a) xs n (omega arith) later)
+
+listed-at : (f : ℕ → ℕ) (a n k : ℕ) → k < n → getD (listed f a n) k 0 ≡ f (k + a)
+unfolding listed
+listed-at f a zero k h = absurd (omega arith)
+listed-at f a (suc n) zero h = let first : 0 + a ≡ a = omega arith in rw first
+listed-at f a (suc n) (suc k) h =
+    let next : suc k + a ≡ k + suc a = omega arith in rw next (listed-at f (suc a) n k (omega arith))
+
+-- A stroke's coordinates.
+pub points-at : (l : List ℕ) (k : ℕ) → k < 12 → getD (strokeOf l .points) k 0 ≡ number l (k + 2)
+unfolding listed
+points-at l k h = listed-at (number l) 2 12 k h
 
 -- What is read of a line that fits, coordinate by coordinate, is its stroke.
 pub curve-read : (l ps : List ℕ) (n m : ℕ) → fits l ≡ true → m ≡ readField (field l 0) → n ≡ readField (field l 1) →

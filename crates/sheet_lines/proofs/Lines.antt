@@ -39,7 +39,7 @@ first-prefix (b ∷ bs) = ap (b ∷_) (by-test (eqb b 10) (firstLine bs) (first-
     by-test true l later = refl
     by-test false l later = later
 
--- It is no longer than the input,
+-- It is no longer than the input.
 pub first-within : (rest : List ℕ) → length (firstLine rest) ≤ length rest
 unfolding firstLine
 first-within [] = lit≤ tt
@@ -49,7 +49,7 @@ first-within (b ∷ bs) = by-test (eqb b 10) (firstLine bs) (first-within bs)
     by-test true l later = omega arith
     by-test false l later = omega arith
 
--- it ends at any line feed that it reaches,
+-- It ends no later than at any line feed.
 feed-ends : (rest : List ℕ) (k : ℕ) → k < length rest → getD rest k 0 ≡ 10 → length (firstLine rest) ≤ suc k
 unfolding firstLine
 feed-ends [] k h e = absurd (omega arith)
@@ -60,7 +60,7 @@ feed-ends (b ∷ bs) (suc k) h e = by-test (eqb b 10) (firstLine bs) (feed-ends 
     by-test true l later = omega arith
     by-test false l later = omega arith
 
--- and it passes any other byte.
+-- It goes on over bytes that are no line feed.
 no-feed : (rest : List ℕ) (n : ℕ) → n < length rest → ((k : ℕ) → k < n → getD rest k 0 ≡ 10 → ⊥) →
     firstLine rest ≡ take n rest ++ firstLine (drop n rest)
 unfolding firstLine
@@ -83,7 +83,7 @@ module _ (fields : ℕ) (line : List ℕ) where
   unfolding isWrong
   short-wrong h = rw (ne-eqb (length line) (5 * fields + 1) (λ e. omega arith))
 
--- Of a line whose bytes before the last place are given, the byte there decides.
+-- After 5 bytes a field, the next byte decides.
 by-byte : (fields : ℕ) (start : List ℕ) (b : ℕ) (more : List ℕ) → length start ≡ 5 * fields →
     isWrong fields (start ++ firstLine (b ∷ more)) ≡ not (eqb b 10)
 unfolding isWrong firstLine
@@ -95,16 +95,16 @@ by-byte fields start b more e =
     by-test false l = ap not (and-false (eqb (length (start ++ b ∷ l)) (5 * fields + 1)))
 
 module _ (fields : ℕ) (rest : List ℕ) where
-  -- An input that is too short does not begin with a line of as many fields,
+  -- An input that is too short does not begin with a line of as many fields.
   pub short-rest : length rest ≤ 5 * fields → isWrong fields (firstLine rest) ≡ true
   short-rest h = short-wrong fields (firstLine rest) (omega (arith, first-within rest))
 
-  -- nor one with a line feed among their bytes;
+  -- Nor does one with a line feed among their bytes.
   pub broken-line : (k : ℕ) → k < length rest → k < 5 * fields → getD rest k 0 ≡ 10 →
       isWrong fields (firstLine rest) ≡ true
   broken-line k h l e = short-wrong fields (firstLine rest) (omega (arith, feed-ends rest k h e))
 
-  -- with none among them, the byte after them decides.
+  -- With none among them, the byte after them decides.
   pub byte-decides : 5 * fields < length rest → ((k : ℕ) → k < 5 * fields → getD rest k 0 ≡ 10 → ⊥) →
       isWrong fields (firstLine rest) ≡ not (eqb (getD rest (5 * fields) 0) 10)
   byte-decides h none =

@@ -22,8 +22,11 @@ firstLine (b ∷ bs) = b ∷ cond (eqb b 10) [] (firstLine bs)
 unfoldable pub fits : (line : List ℕ) → Bool
 fits l = not (someBad 14 l) && not (markOut (number l 0)) && not (someBelow 12 (λ k. ltb 255 (number l (k + 2))))
 
--- The number that refuses a curve line that does not fit, in the order of a curve line. What is left is a coordinate
--- above 255, which is not below any side: 14.
+-- The first that applies of 42, a bad field, 12, the mark, and 13, the step count, and otherwise 14.
+abbrev pub firstOf : (bad markWrong countWrong : Bool) → ℕ
+firstOf bad markWrong countWrong = cond bad 42 (cond markWrong 12 (cond countWrong 13 14))
+
+-- The number that refuses a curve line that does not fit, in the order of a curve line. What is left after 13 is a
+-- coordinate above 255, which is not below any side: 14.
 unfoldable pub unfitRefusal : (line : List ℕ) → ℕ
-unfitRefusal l =
-    cond (someBad 14 l) 42 (cond (markOut (number l 0)) 12 (cond (countOut 512 (number l 1)) 13 14))
+unfitRefusal l = firstOf (someBad 14 l) (markOut (number l 0)) (countOut 512 (number l 1))

@@ -6,7 +6,7 @@ ghost use lib.ListN.{length};
 ghost use Rattle.curve.specs.Curve.{curveOf};
 ghost use Rattle.sheet.specs.Line.{field, isWrong, someBad};
 ghost use Rattle.sheet.specs.Sheet.{markOut, strokeOf, objectOf};
-ghost use Rattle.sheet_lines.specs.Read.{readField, firstLine, fits, unfitRefusal};
+ghost use Rattle.sheet_lines.specs.Read.{readField, firstLine, fits, firstOf, unfitRefusal};
 use crate::field::number;
 use curve::Curve;
 
@@ -101,13 +101,23 @@ pub fn refusal_of(line: &[u8]) -> u32
     requires { ⌜ 70 ≤ length (now line) ⌝ }
     ensures { λ r. ⌜ r ≡ unfitRefusal (now (line .entry)) ⌝ }
 {
-    if some_bad(line) {
+    let bad = some_bad(line);
+    let mark_out = is_mark_out(number_at(line, 0));
+    let count_out = scan::refusal::is_count_out(512, number_at(line, 1));
+    first_of(bad, mark_out, count_out)
+}
+
+// The first number of 42, 12, 13 and 14 that applies, where 14 does if no other.
+fn first_of(bad: bool, mark_out: bool, count_out: bool) -> u32
+    ensures { λ r. ⌜ r ≡ firstOf bad «mark_out» «count_out» ⌝ }
+{
+    if bad {
         return 42;
     }
-    if is_mark_out(number_at(line, 0)) {
+    if mark_out {
         return 12;
     }
-    if scan::refusal::is_count_out(512, number_at(line, 1)) {
+    if count_out {
         return 13;
     }
     14

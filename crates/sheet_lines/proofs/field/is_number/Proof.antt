@@ -27,7 +27,7 @@ shared-slice-read-if3 c = search needs
 returns-2 : tie.Need-returns-2 Inv-loop μ-loop
 returns-2 c =
     let part = now (c .before .before .before .before .before .args .part) in
-    sym (leading-zero part (c .before .before .if2 .taken) (eqb-true (getD part 0 0) 48 (c .if3 .taken)))
+    sym (leading-zero part (omega arith) (eqb-true (getD part 0 0) 48 (c .if3 .taken)))
 
 loop-holds : tie.Need-loop-holds Inv-loop μ-loop
 loop-holds c =
