@@ -1,0 +1,71 @@
+-- `listed` is safe: the part that it lists is as long as a cube.
+use native.Mathlib.Omega.{arith}
+use lib.ListN.{length-take}
+use borrow.Author.Needs.{needs}
+use Rattle.sheet_cases.proofs.printed.listed.Statement.{statement}
+use Rattle.sheet_cases.proofs.printed.listed.Tie as tie
+
+empty-requires : tie.Need-empty-requires
+empty-requires c κs = search needs
+
+returns : tie.Need-returns
+returns c = search needs
+
+empty-requires-2 : tie.Need-empty-requires-2
+empty-requires-2 c κs = search needs
+
+returns-2 : tie.Need-returns-2
+returns-2 c = search needs
+
+bytes-of-requires : tie.Need-bytes-of-requires
+bytes-of-requires c κs = search needs
+
+empty-requires-3 : tie.Need-empty-requires-3
+empty-requires-3 c κs = search needs
+
+returns-3 : tie.Need-returns-3
+returns-3 c = search needs
+
+slice-aggregate-by-planes : tie.Need-slice-aggregate-by-planes
+slice-aggregate-by-planes c = simp length-take (omega arith)
+
+by-planes-requires : tie.Need-by-planes-requires
+by-planes-requires c κs = omega (arith, slice-aggregate-by-planes (c .before))
+
+slice-aggregate-by-parts : tie.Need-slice-aggregate-by-parts
+slice-aggregate-by-parts c = simp length-take (omega arith)
+
+by-parts-requires : tie.Need-by-parts-requires
+by-parts-requires c κs = search needs
+
+same-length : tie.Need-same-length
+same-length c = search needs
+
+returns-4 : tie.Need-returns-4
+returns-4 c = search needs
+
+same-length-2 : tie.Need-same-length-2
+same-length-2 c = search needs
+
+returns-5 : tie.Need-returns-5
+returns-5 c = search needs
+
+pub listed-spec : {M : Type 1} → statement M
+listed-spec =
+    tie.close
+    (tie.spec
+    empty-requires
+    returns
+    empty-requires-2
+    returns-2
+    bytes-of-requires
+    empty-requires-3
+    returns-3
+    slice-aggregate-by-planes
+    by-planes-requires
+    slice-aggregate-by-parts
+    by-parts-requires
+    same-length
+    returns-4
+    same-length-2
+    returns-5)

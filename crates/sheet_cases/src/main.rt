@@ -1,0 +1,153 @@
+// Runs stored stroke sheets: reads cases from standard input and writes an answer record for each.
+//
+// A case is a heading, a record
+//
+//     S lent first step part length
+//
+// and then as many bytes as the length says, at most 16384: the sheet. There is one buffer of 65536 bytes; lent to the
+// call are the first of them, as many as the heading says, after byte i of them has become first + step × i, modulo 256.
+// The answers are
+//
+//     A side curves held printed               accepted: the side and the number of curve lines
+//     R number line held printed               refused
+//
+// where held are three numbers for what the lent bytes hold afterwards, and printed three for the listing, or the refusal
+// line, of this answer (`digest::Digest`). The listing is made plane by plane, or, if part is not 0, in parts of so many
+// places.
+//
+// A heading has 5 numbers, hence 46 bytes, and an answer 8, hence 74 bytes.
+mod digest;
+mod printed;
+
+ghost use mathlib.Core.Path.{_≡_};
+ghost use lib.ListN.{length};
+use cases::block::Progress;
+use cases::record::number;
+use digest::Digest;
+use digest::eight;
+use sheet_cube::Answer;
+
+// A loop has to end, and nothing says that the input does: it counts down from a number that no run uses up.
+fn main() {
+    let mut buffer = [0u8; 65536];
+    let mut turns = u64::MAX;
+    while turns > 0 {
+        if !cases::block::goes_on(answer_next(&mut buffer)) {
+            return;
+        }
+        turns -= 1;
+    }
+}
+
+// Answers the next case.
+fn answer_next(buffer: &mut [u8]) -> Progress {
+    let mut heading = [0u8; 46];
+    let mut sheet = [0u8; 16384];
+    let mut text = [0u8; 33621];
+    answer_input(&mut heading, &mut sheet, &mut text, buffer)
+}
+
+// Reads a case and writes its answer. A heading of another form is a failure, since nothing says where the next case
+// begins.
+fn answer_input(
+    heading: &mut [u8],
+    sheet: &mut [u8],
+    text: &mut [u8],
+    buffer: &mut [u8],
+) -> Progress
+    requires { ⌜ (length (now heading) ≡ 46) × (length (now text) ≡ 33621) ⌝ }
+{
+    let input = reading::fill(libc::STDIN_FILENO, heading);
+    if input.failed {
+        return Progress::Failed;
+    }
+    if input.count == 0 {
+        return Progress::Ended;
+    }
+    if input.count < 46 || !cases::record::is_case(heading) || heading[0] != b'S' {
+        return Progress::Failed;
+    }
+    answer_case(heading, sheet, text, buffer)
+}
+
+// Answers the case of a heading. One that asks for more bytes than there are is a failure.
+fn answer_case(heading: &[u8], sheet: &mut [u8], text: &mut [u8], buffer: &mut [u8]) -> Progress
+    requires { ⌜ (length (now heading) ≡ 46) × (length (now text) ≡ 33621) ⌝ }
+{
+    let lent = number(heading, 0) as usize;
+    let count = number(heading, 4) as usize;
+    if buffer.len() < lent {
+        return Progress::Failed;
+    }
+    if sheet.len() < count {
+        return Progress::Failed;
+    }
+    answer_lent(heading, &mut sheet[..count], text, &mut buffer[..lent])
+}
+
+// Reads the sheet and answers it.
+fn answer_lent(heading: &[u8], sheet: &mut [u8], text: &mut [u8], lent: &mut [u8]) -> Progress
+    requires { ⌜ (length (now heading) ≡ 46) × (length (now text) ≡ 33621) ⌝ }
+{
+    let input = reading::fill(libc::STDIN_FILENO, sheet);
+    if input.failed {
+        return Progress::Failed;
+    }
+    if input.count < sheet.len() {
+        return Progress::Failed;
+    }
+    answer_sheet(heading, sheet, text, lent)
+}
+
+// Fills the lent bytes, draws the sheet and writes the answer.
+fn answer_sheet(heading: &[u8], sheet: &[u8], text: &mut [u8], lent: &mut [u8]) -> Progress
+    requires { ⌜ (length (now heading) ≡ 46) × (length (now text) ≡ 33621) ⌝ }
+{
+    fill(
+        lent,
+        low_byte(number(heading, 1)),
+        low_byte(number(heading, 2)),
+    );
+    let answer = sheet_cube::draw_sheet(sheet, lent);
+    let held = digest::extended(digest::empty(), lent);
+    let printed = printed::printed(answer, lent, number(heading, 3), text);
+    match answer {
+        Answer::Drawn(size) => write_answer(b'A', size.side, size.curves, held, printed),
+        Answer::Refused(refusal) => {
+            write_answer(b'R', refusal.number, refusal.line, held, printed)
+        }
+    }
+}
+
+// Byte i becomes first + step × i, modulo 256.
+fn fill(lent: &mut [u8], first: u8, step: u8) {
+    let mut byte = first;
+    let mut i = 0;
+    while i < lent.len() {
+        lent[i] = byte;
+        byte = std::num::wrapping_add_u8(byte, step);
+        i += 1;
+    }
+}
+
+// The last eight bits of a number.
+fn low_byte(n: u32) -> u8 {
+    (n % 256) as u8
+}
+
+// Writes an answer record, and says how it goes on.
+fn write_answer(letter: u8, a: u32, b: u32, held: Digest, printed: Digest) -> Progress {
+    let numbers = [
+        a,
+        b,
+        eight(held.marked),
+        eight(held.first),
+        eight(held.second),
+        eight(printed.marked),
+        eight(printed.first),
+        eight(printed.second),
+    ];
+    let mut record = [0u8; 74];
+    cases::answer::put_answer(letter, false, &numbers, &mut record, 0);
+    cases::block::write_answers(&record, 74, Progress::More)
+}
