@@ -1,10 +1,10 @@
 -- A listing by whole planes: the planes so far, and one more.
-use mathlib.Core.Path.{_≡_, refl, sym, _∙_, ap}
-use mathlib.Core.List.{List, _++_}
+use mathlib.Core.Path.{_≡_, _∙_}
+use mathlib.Core.List.{List}
 use Prim.Native.Nat.{ℕ, _+_, _-_, _*_, _≤_, _<_}
 use native.Mathlib.Nat.{mul-sub, mul-one, mul-pos, mul-le-mul-left}
 use native.Mathlib.Omega.{arith}
-use lib.ListN.{length, take}
+use lib.ListN.{length}
 use Rattle.sheet.specs.Part.{part}
 use Rattle.sheet.proofs.Parts.{part-append, length-part-at-most}
 use Rattle.sheet_listing.specs.Puts.{Puts}

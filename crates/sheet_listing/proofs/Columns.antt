@@ -1,6 +1,6 @@
 -- A number in columns, column by column: its last digit, before it the last digit of a tenth of it, and so on, and
 -- blanks where nothing is left.
-use mathlib.Core.Path.{_≡_, refl, sym, _∙_, ap}
+use mathlib.Core.Path.{_≡_, refl, _∙_}
 use mathlib.Core.Logic.{⊎-elim}
 use mathlib.Core.Bool.{cond}
 use mathlib.Core.List.{List, [], _∷_, _++_}

@@ -1,5 +1,5 @@
 -- The lines of a row are those of its bytes: along a row x rises with the byte, and y and z stay.
-use mathlib.Core.Path.{_≡_, refl, sym, _∙_, ap}
+use mathlib.Core.Path.{_≡_, refl, sym}
 use mathlib.Core.List.{List, [], _∷_, _++_, append-assoc, append-nil}
 use Prim.Native.Nat.{ℕ, suc, _+_, _*_, _/_, _%_, _≤_, _<_}
 use native.Mathlib.Nat.{add-zero, add-suc, suc-add, mod-eq-of-lt, div-eq-of-lt, add-mul-mod-self-left, add-mul-div-left, div-div-eq-div-mul}
@@ -8,7 +8,7 @@ use native.Mathlib.Omega.{arith}
 use lib.Dec.{eqb}
 use lib.ListN.{length, getD, take}
 use lib.Seq.{take-suc, length-take-le}
-use Rattle.decide.proofs.Truth.{false-of, true-of, equal}
+use Rattle.decide.proofs.Truth.{false-of, equal}
 use Rattle.sheet.specs.Line.{asLine}
 use Rattle.sheet.specs.Printed.{cellLine, cellLines}
 use Rattle.sheet_listing.specs.Row.{lineOf, rowLines}

@@ -8,8 +8,8 @@ ghost use Rattle.sheet.specs.Line.{asLine};
 ghost use Rattle.sheet.specs.Printed.{cellLines};
 ghost use Rattle.sheet_listing.specs.Puts.{Puts};
 ghost use Rattle.sheet_listing.specs.Row.{rowLines};
-use crate::number::lesser;
-use crate::number::put_number;
+use crate::text::lesser;
+use crate::text::put_number;
 
 // The line of a marked cell.
 fn put_cell(x: u8, y: u8, z: u8, mark: u8, text: &mut [u8], at: usize)

@@ -1,6 +1,6 @@
 // The listing of a colour cube as text, in parts, and the refusal line.
 mod cells;
-mod number;
+mod text;
 
 ghost use mathlib.Core.Path.{_≡_};
 ghost use Prim.Native.Nat.{_+_, _*_, _-_, _≤_, _<_, min};
@@ -12,6 +12,10 @@ ghost use Rattle.sheet.specs.Part.{part, partOrder, lineOrder};
 ghost use Rattle.sheet_listing.specs.Puts.{Puts};
 ghost use Rattle.sheet_listing.specs.Writes.{Writes};
 ghost use Rattle.sheet_listing.specs.ByPlane.{ListsPlanes};
+use crate::cells::put_cells;
+use crate::text::lesser;
+use crate::text::put_bytes;
+use crate::text::put_number;
 
 // The number of bytes written, or the refusal's number.
 pub enum Written {
@@ -52,9 +56,9 @@ pub fn refusal_line(number: u32, line: u32, text: &mut [u8]) -> Written
     if text.len() < 18 {
         return Written::Refused(22);
     }
-    number::put_bytes(b"REFUSED", text, 0);
-    number::put_number(number, text, 7);
-    number::put_number(line, text, 12);
+    put_bytes(b"REFUSED", text, 0);
+    put_number(number, text, 7);
+    put_number(line, text, 12);
     text[17] = b'\n';
     Written::Bytes(18)
 }
@@ -96,9 +100,9 @@ fn put_part(
     let n = places(cube.len(), first, count);
     let mut at = start;
     if first == 0 {
-        at = number::put_bytes(b"    X    Y    Z MARK\n", text, at);
+        at = put_bytes(b"    X    Y    Z MARK\n", text, at);
     }
-    cells::put_cells(side, cube, first, n, text, at)
+    put_cells(side, cube, first, n, text, at)
 }
 
 // How many of count places from byte first on there are.
@@ -108,5 +112,5 @@ fn places(bytes: usize, first: usize, count: usize) -> usize
     if bytes <= first {
         return 0;
     }
-    number::lesser(count, bytes - first)
+    lesser(count, bytes - first)
 }

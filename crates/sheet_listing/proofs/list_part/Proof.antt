@@ -16,9 +16,6 @@ use Rattle.sheet.proofs.Parts.{length-part-at-most}
 use Rattle.sheet_listing.proofs.Writes.{writes-accepted, writes-refused}
 use Rattle.sheet_listing.proofs.list_part.Statement.{statement}
 use Rattle.sheet_listing.proofs.list_part.Tie as tie
-use Rattle.sheet_listing.proofs.list_part.Reads as reads
-use Rattle.sheet_listing.proofs.list_part.Lts as lts
-use Rattle.sheet_listing.proofs.put_part.Reads as put-part-reads
 
 -- The side is outside 2 to 64.
 outside : (c : tie.Joined1) → sideOut (c .before .before .before .args .side) ≡ true

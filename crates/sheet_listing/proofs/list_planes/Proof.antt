@@ -1,8 +1,7 @@
 -- `list_planes` meets its contract: plane by plane, the text begins with the listing of the planes so far.
 use borrow.Author.Needs.{needs}
 use borrow.Author.Tests.{leb-true}
-use mathlib.Core.Path.{_≡_, _∙_}
-use Prim.Native.Nat.{ℕ, _+_, _-_, _*_, _≤_, _<_}
+use Prim.Native.Nat.{ℕ, _-_, _*_, _≤_}
 use native.Mathlib.Nat.{mul-le-mul}
 use native.Mathlib.Omega.{arith}
 use lib.ListN.{length}
@@ -12,9 +11,6 @@ use Rattle.sheet_listing.proofs.Puts.{puts-length}
 use Rattle.sheet_listing.proofs.ByPlane.{first-plane, next-plane}
 use Rattle.sheet_listing.proofs.list_planes.Statement.{statement}
 use Rattle.sheet_listing.proofs.list_planes.Tie as tie
-use Rattle.sheet_listing.proofs.list_planes.Reads as reads
-use Rattle.sheet_listing.proofs.list_planes.Lts as lts
-use Rattle.sheet_listing.proofs.put_part.Reads as put-part-reads
 
 abbrev Inv-loop : tie.InvT-loop
 Inv-loop side cube z text₀ s plane room bytes₀ next₀ text bytes next =
@@ -37,12 +33,14 @@ mul-room : tie.Need-mul-room Inv-loop μ-loop
 mul-room c = omega (arith, square (c .before .before .pre .0 .1))
 
 mul-put-part : tie.Need-mul-put-part Inv-loop μ-loop
-mul-put-part c = let s = c .before .before in
+mul-put-part c =
+    let s = c .before .before in
     let z : s .args .z ≤ 40 = omega arith in
     omega (arith, mul-le-mul (square (s .pre .0 .1)) z)
 
 put-part-requires : tie.Need-put-part-requires Inv-loop μ-loop
-put-part-requires c κs = let s = c .before .before .before in
+put-part-requires c κs =
+    let s = c .before .before .before in
     (omega arith, (s .pre .1 .0, omega (arith, square (s .pre .0 .1))))
 
 add-next : tie.Need-add-next Inv-loop μ-loop
@@ -59,12 +57,14 @@ sub-if1 : tie.Need-sub-if1 Inv-loop μ-loop
 sub-if1 c = omega (arith, c .before .loop .inv .fits, c .before .loop .inv .size)
 
 mul-put-part-2 : tie.Need-mul-put-part-2 Inv-loop μ-loop
-mul-put-part-2 c = let s = c .before .before .before .before .before .before .before .before .before in
+mul-put-part-2 c =
+    let s = c .before .before .before .before .before .before .before .before .before in
     let y : c .before .before .loop .next ≤ 40 = omega arith in
     omega (arith, mul-le-mul (square (s .pre .0 .1)) y)
 
 put-part-requires-2 : tie.Need-put-part-requires-2 Inv-loop μ-loop
-put-part-requires-2 c κs = let s = c .before .before .before .before .before .before .before .before .before .before in
+put-part-requires-2 c κs =
+    let s = c .before .before .before .before .before .before .before .before .before .before in
     (omega arith, (s .pre .1 .0, omega (arith, leb-true)))
 
 add-next-2 : tie.Need-add-next-2 Inv-loop μ-loop
@@ -77,7 +77,8 @@ loop-again : tie.Need-loop-again Inv-loop μ-loop
 loop-again c =
     let l = c .before .before .before .before .before .before in
     let s = l .before .before .before .before .before .before .before in
-    next-plane (s .args .side) (now (s .args .cube)) (s .args .z) (l .loop .inv) (omega arith) (omega (arith, leb-true)) (c .before .before .put-part2 .ensures)
+    next-plane (s .args .side) (now (s .args .cube)) (s .args .z) (l .loop .inv) (omega arith) (omega (arith, leb-true))
+    (c .before .before .put-part2 .ensures)
 
 same-length : tie.Need-same-length Inv-loop μ-loop
 same-length c = let size = c .before .before .loop .inv .size in search needs

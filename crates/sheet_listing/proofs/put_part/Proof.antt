@@ -2,11 +2,11 @@
 -- are.
 use borrow.Author.Needs.{needs}
 use borrow.Author.Tests.{eq-eqb, ne-eqb}
-use mathlib.Core.Path.{_≡_, sym, _∙_, ap}
+use mathlib.Core.Path.{_≡_, sym, _∙_}
 use mathlib.Core.Logic.{⊎-elim}
 use mathlib.Core.Bool.{cond}
 use mathlib.Core.List.{List, []}
-use Prim.Native.Nat.{ℕ, min, _-_}
+use Prim.Native.Nat.{ℕ, min}
 use native.Mathlib.Omega.{arith}
 use lib.Dec.{leb, eqb}
 use lib.ListN.{length, take, drop, length-drop}
@@ -20,11 +20,6 @@ use Rattle.sheet_listing.specs.Puts.{Puts}
 use Rattle.sheet_listing.proofs.Puts.{puts-none, puts-append, puts-length}
 use Rattle.sheet_listing.proofs.put_part.Statement.{statement}
 use Rattle.sheet_listing.proofs.put_part.Tie as tie
-use Rattle.sheet_listing.proofs.put_part.Reads as reads
-use Rattle.sheet_listing.proofs.put_part.Lts as lts
-use Rattle.sheet_listing.proofs.cells.put_cells.Reads as put-cells-reads
-use Rattle.sheet_listing.proofs.number.put_bytes.Reads as put-bytes-reads
-use Rattle.sheet_listing.proofs.places.Reads as places-reads
 
 places-requires : tie.Need-places-requires
 places-requires c κs = search needs

@@ -1,8 +1,10 @@
 -- `refusal_line` meets its contract: the word, two numbers and a line feed, one after another.
 use borrow.Author.Needs.{needs}
 use borrow.Author.Tests.{lt-ltb, le-ltb}
-use mathlib.Core.Path.{_≡_, refl}
-use lib.ListN.{set}
+use mathlib.Core.Path.{refl}
+use Prim.Native.Nat.{_≤_, _<_}
+use native.Mathlib.Omega.{arith}
+use lib.ListN.{length, set}
 use denote.Ref.{now}
 use Rattle.decide.specs.Refusal.{firstThat}
 use Rattle.sheet.specs.Line.{asLine}
@@ -14,14 +16,12 @@ use Rattle.sheet_listing.proofs.Puts.{puts-byte, puts-append, puts-next
 use Rattle.sheet_listing.proofs.Writes.{writes-accepted, writes-refused}
 use Rattle.sheet_listing.proofs.refusal_line.Statement.{statement}
 use Rattle.sheet_listing.proofs.refusal_line.Tie as tie
-use Rattle.sheet_listing.proofs.refusal_line.Reads as reads
-use Rattle.sheet_listing.proofs.refusal_line.Lts as lts
-use Rattle.sheet_listing.proofs.number.put_bytes.Reads as put-bytes-reads
-use Rattle.sheet_listing.proofs.number.put_number.Reads as put-number-reads
 
 returns : tie.Need-returns
 unfolding firstThat lineOrder
-returns c = writes-refused (simp (lt-ltb _ _ (c .if1 .taken)))
+returns c =
+    let short : length (now (c .before .before .args .text)) < 18 = omega arith in
+    writes-refused (simp (lt-ltb _ _ short))
 
 slice-aggregate-put-bytes : tie.Need-slice-aggregate-put-bytes
 slice-aggregate-put-bytes c = search needs
@@ -57,7 +57,7 @@ same-length c = puts-length (line c)
 returns-2 : tie.Need-returns-2
 unfolding firstThat lineOrder
 returns-2 c =
-    let long = c .before .before .before .before .before .before .before .before .before .before .before .before .before .if1 .left in
+    let long : 18 ≤ length (now (start c .args .text)) = omega arith in
     writes-accepted (simp (le-ltb _ _ long)) (rw length-refusalLine long) (line c)
 
 pub refusal-line-spec : {M : Type 1} → statement M

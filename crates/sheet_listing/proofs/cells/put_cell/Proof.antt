@@ -6,10 +6,6 @@ use Rattle.sheet.specs.Line.{asLine}
 use Rattle.sheet_listing.proofs.Puts.{puts-byte, puts-append, puts-length}
 use Rattle.sheet_listing.proofs.cells.put_cell.Statement.{statement}
 use Rattle.sheet_listing.proofs.cells.put_cell.Tie as tie
-use Rattle.sheet_listing.proofs.cells.put_cell.Reads as reads
-use Rattle.sheet_listing.proofs.cells.put_cell.Lts as lts
-use Rattle.sheet_listing.proofs.cells.wide.Reads as wide-reads
-use Rattle.sheet_listing.proofs.number.put_number.Reads as put-number-reads
 
 wide-requires : tie.Need-wide-requires
 wide-requires c κs = search needs

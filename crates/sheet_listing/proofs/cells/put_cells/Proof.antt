@@ -1,9 +1,9 @@
 -- `put_cells` meets its contract: after each row the lines of the cells up to p are written, and x, y, z are the
 -- coordinates of byte p while there are places left.
 use borrow.Author.Needs.{needs}
-use mathlib.Core.Path.{_≡_, refl, _∙_, ap, sym}
-use mathlib.Core.List.{List, [], _++_}
-use Prim.Native.Nat.{ℕ, suc, _+_, _-_, _*_, _≤_, _<_, min}
+use mathlib.Core.Path.{_≡_, ap, sym}
+use mathlib.Core.List.{List, _++_}
+use Prim.Native.Nat.{ℕ, _+_, _-_, _*_, _≤_, _<_, min}
 use native.Mathlib.Nat.{mod-lt}
 use native.Mathlib.Omega.{arith}
 use lib.ListN.{length, take, drop, length-drop}
@@ -18,10 +18,6 @@ use Rattle.sheet_listing.proofs.Puts.{puts-none, puts-append, puts-leng
 use Rattle.sheet_listing.proofs.Rows.{row-cells, coordinates-of, z-below}
 use Rattle.sheet_listing.proofs.cells.put_cells.Statement.{statement}
 use Rattle.sheet_listing.proofs.cells.put_cells.Tie as tie
-use Rattle.sheet_listing.proofs.cells.put_cells.Reads as reads
-use Rattle.sheet_listing.proofs.cells.put_cells.Lts as lts
-use Rattle.sheet_listing.proofs.cells.put_row.Reads as put-row-reads
-use Rattle.sheet_listing.proofs.number.lesser.Reads as lesser-reads
 
 -- x, y and z are the coordinates of byte p.
 record Stands (S p x y z : ℕ) : Type 0 where
@@ -30,7 +26,8 @@ record Stands (S p x y z : ℕ) : Type 0 where
   pub is : p ≡ x + S * (y + S * z)
 
 -- The lines of the cells from byte first to before byte p are written, and there is room for the others.
-record SoFar (S : ℕ) (cube : List ℕ) (first end : ℕ) (text₀ : List ℕ) (start : ℕ) (text : List ℕ) (x y z p at : ℕ) : Type 0 where
+record SoFar (S : ℕ) (cube : List ℕ) (first end : ℕ) (text₀ : List ℕ) (start : ℕ) (text : List ℕ) (x y z p at : ℕ) :
+    Type 0 where
   pub from : first ≤ p
   pub until : p ≤ end
   pub stands : p < end → Stands S p x y z
@@ -226,7 +223,7 @@ loop-again : tie.Need-loop-again Inv-loop μ-loop
 unfolding marks
 loop-again c =
     let t = turn (c .before .before .before .before .before .before) in
-    next t (c .before .before .before .put-row .ensures) (carried t (c .if1 .taken))
+    next t (c .before .before .before .put-row .ensures) (carried t (omega (arith, y-most t, t .most)))
 
 loop-less-2 : tie.Need-loop-less-2 Inv-loop μ-loop
 loop-less-2 c = let t = turn (c .before .before .before .before .before .before) in omega (arith, ahead t, t .stops)

@@ -1,6 +1,6 @@
 -- `put_row` meets its contract: after i turns the lines of the first i cells are written.
 use borrow.Author.Needs.{needs}
-use mathlib.Core.Path.{_≡_, refl}
+use mathlib.Core.Path.{_≡_}
 use mathlib.Core.Logic.{⊎-elim}
 use mathlib.Core.List.{List, _∷_, [], append-nil}
 use Prim.Native.Nat.{ℕ, suc, _+_, _-_, _*_, _≤_, _<_}
@@ -16,9 +16,6 @@ use Rattle.sheet_listing.proofs.Puts.{puts-none, puts-append, puts-leng
 use Rattle.sheet_listing.proofs.Rows.{line-marked, line-unmarked, row-next}
 use Rattle.sheet_listing.proofs.cells.put_row.Statement.{statement}
 use Rattle.sheet_listing.proofs.cells.put_row.Tie as tie
-use Rattle.sheet_listing.proofs.cells.put_row.Reads as reads
-use Rattle.sheet_listing.proofs.cells.put_row.Lts as lts
-use Rattle.sheet_listing.proofs.cells.put_cell.Reads as put-cell-reads
 
 -- The lines of the first i cells are written, and there is room for a line for each cell that is left.
 record SoFar (marks : List ℕ) (x y z : ℕ) (text₀ : List ℕ) (start : ℕ) (text : List ℕ) (at i : ℕ) : Type 0 where
@@ -32,7 +29,7 @@ module _ {marks : List ℕ} {x y z : ℕ} {text₀ : List ℕ} {start : ℕ} {te
   marked : {after : List ℕ} → ¬ (getD marks i 0 ≡ 0) →
       Puts (asLine ((x + i) ∷ y ∷ z ∷ getD marks i 0 ∷ [])) at text after (at + 21) →
       SoFar marks x y z text₀ start after (at + 21) (suc i)
-  marked {after} mark line = record {
+  marked mark line = record {
     within = l;
     puts = rw (row-next x y z i marks l, line-marked (x + i) y z (getD marks i 0) mark) (puts-append (s .puts) line);
     room = omega (arith, s .room, puts-length line);

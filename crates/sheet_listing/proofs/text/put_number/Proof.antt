@@ -5,12 +5,8 @@ use native.Mathlib.Omega.{arith}
 use lib.ListN.{length-set}
 use Rattle.sheet.proofs.Numbers.{length-inColumns}
 use Rattle.sheet_listing.proofs.Columns.{five-columns}
-use Rattle.sheet_listing.proofs.number.put_number.Statement.{statement}
-use Rattle.sheet_listing.proofs.number.put_number.Tie as tie
-use Rattle.sheet_listing.proofs.number.put_number.Reads as reads
-use Rattle.sheet_listing.proofs.number.put_number.Lts as lts
-use Rattle.sheet_listing.proofs.number.column.Reads as column-reads
-use Rattle.sheet_listing.proofs.number.digit.Reads as digit-reads
+use Rattle.sheet_listing.proofs.text.put_number.Statement.{statement}
+use Rattle.sheet_listing.proofs.text.put_number.Tie as tie
 
 column-requires : tie.Need-column-requires
 column-requires c κs = search needs

@@ -1,6 +1,6 @@
 -- `put_bytes` meets its contract: after i turns the first i bytes are written.
 use borrow.Author.Needs.{needs}
-use mathlib.Core.Path.{_≡_, refl}
+use mathlib.Core.Path.{refl}
 use mathlib.Core.List.{List}
 use Prim.Native.Nat.{ℕ, _+_, _-_, _≤_, _<_}
 use native.Mathlib.Nat.{add-zero, add-assoc}
@@ -11,10 +11,8 @@ use lib.Seq.{take-suc, take-all}
 use denote.Ref.{now}
 use Rattle.sheet_listing.specs.Puts.{Puts}
 use Rattle.sheet_listing.proofs.Puts.{puts-none, puts-byte, puts-append, puts-length}
-use Rattle.sheet_listing.proofs.number.put_bytes.Statement.{statement}
-use Rattle.sheet_listing.proofs.number.put_bytes.Tie as tie
-use Rattle.sheet_listing.proofs.number.put_bytes.Reads as reads
-use Rattle.sheet_listing.proofs.number.put_bytes.Lts as lts
+use Rattle.sheet_listing.proofs.text.put_bytes.Statement.{statement}
+use Rattle.sheet_listing.proofs.text.put_bytes.Tie as tie
 
 -- The first i bytes are written.
 record SoFar (bytes text₀ : List ℕ) (at : ℕ) (text : List ℕ) (i : ℕ) : Type 0 where
@@ -63,7 +61,9 @@ same-length : tie.Need-same-length Inv-loop μ-loop
 same-length c = puts-length (c .before .loop .inv .puts)
 
 returns : tie.Need-returns Inv-loop μ-loop
-returns c = let all = c .loop-test .left in rw (take-all (c .before .loop .i) (now (c .before .before .args .bytes)) all) at (c .before .loop .inv .puts)
+returns c =
+    rw (take-all (c .before .loop .i) (now (c .before .before .args .bytes)) (c .loop-test .left)) at
+    (c .before .loop .inv .puts)
 
 pub put-bytes-spec : {M : Type 1} → statement M
 put-bytes-spec =

@@ -2,8 +2,8 @@
 use borrow.Author.Needs.{needs}
 use borrow.Author.Tests.{eq-eqb, ne-eqb}
 use Rattle.sheet_listing.specs.Column.{columnOf}
-use Rattle.sheet_listing.proofs.number.column.Statement.{statement}
-use Rattle.sheet_listing.proofs.number.column.Tie as tie
+use Rattle.sheet_listing.proofs.text.column.Statement.{statement}
+use Rattle.sheet_listing.proofs.text.column.Tie as tie
 
 digit-requires : tie.Need-digit-requires
 digit-requires c κs = search needs
