@@ -1,10 +1,9 @@
 -- Line 202 is refused whatever it holds.
-use mathlib.Core.Path.{_≡_, ap}
-use mathlib.Core.Bool.{cond}
+use mathlib.Core.Path.{_≡_}
 use mathlib.Core.List.{List}
 use Prim.Native.Nat.{ℕ, _<_}
 use lib.Dec.{ltb}
-use Rattle.decide.specs.Refusal.{Verdict, refused, firstThat}
+use Rattle.decide.specs.Refusal.{refused, firstThat}
 use Rattle.decide.proofs.Truth.{true-of, less}
 use Rattle.sheet.specs.Sheet.{curveOrder}
 

@@ -1,23 +1,24 @@
 -- The first 14207 bytes of an input decide its output: 6 bytes of line 1, 71 of each of 200 curve lines, and one more.
 use mathlib.Core.Path.{_≡_, refl, sym, _∙_, ap}
 use mathlib.Core.Logic.{⊎-elim}
-use mathlib.Core.Bool.{Bool, true, false, cond, not}
-use mathlib.Core.List.{List, [], _∷_, map}
-use Prim.Native.Nat.{ℕ, zero, suc, _+_, _-_, _*_, _≤_, _<_}
+use mathlib.Core.Bool.{Bool, true, false, cond}
+use mathlib.Core.List.{List, [], _∷_}
+use Prim.Native.Nat.{ℕ, zero, suc, _+_, _*_, _≤_, _<_}
 use native.Mathlib.Omega.{arith}
 use lib.Dec.{eqb, ltb, lit<}
-use lib.ListN.{length, take, drop, length-take, length-drop}
+use lib.ListN.{length, take, drop, length-drop}
 use lib.Seq.{take-all, take-nil, take-add, drop-at, length-take-le}
 use Rattle.decide.specs.Refusal.{accepted, refused, firstThat}
-use Rattle.decide.proofs.Refusal.{by-verdict, first-applies, first-passes}
-use Rattle.decide.proofs.Truth.{decided, less, not-less, false-of}
+use Rattle.decide.proofs.Refusal.{by-verdict}
+use Rattle.decide.proofs.Truth.{decided, less, not-less}
 use Rattle.sheet.proofs.Sheet.{too-many-lines}
 use borrow.Author.Tests.{ne-eqb}
 use Rattle.sheet.specs.Line.{lines, isWrong, number}
-use Rattle.sheet.specs.Sheet.{strokeOf, sideOrder, curveOrder, Judged, good, bad, judgeCurves, judge}
+use Rattle.sheet.specs.Sheet.{sideOrder, curveOrder, Judged, good, bad, judgeCurves, judge}
 use Rattle.sheet.specs.Printed.{printed, output}
 use Rattle.sheet_lines.specs.Read.{firstLine}
-use Rattle.sheet_cube.proofs.Judged.{rest-lines, curve-refused, curve-accepted, passes, passes-side, side-refused, side-accepted, strokesOf}
+use Rattle.sheet_cube.proofs.Verdicts.{side-wrong, curve-wrong}
+use Rattle.sheet_cube.proofs.Judged.{rest-lines, curve-refused, curve-accepted, passes, side-refused, side-accepted, strokesOf}
 
 -- The first line of the first bytes.
 first-take : (m : ℕ) (rest : List ℕ) → firstLine (take m rest) ≡ take m (firstLine rest)
@@ -42,17 +43,6 @@ by-size m n p q = ⊎-elim (λ t. q (less n m .0 t)) (λ f. p (not-less n m f)) 
 long-wrong : (fields : ℕ) (l : List ℕ) → 5 * fields + 1 < length l → isWrong fields l ≡ true
 unfolding isWrong
 long-wrong fields l h = rw (ne-eqb (length l) (5 * fields + 1) (λ e. omega (arith, h, e)))
-
-module _ (S k : ℕ) (l : List ℕ) where
-  long-curve : k ≤ 201 → 71 < length l → firstThat (curveOrder S k l) ≡ refused 41
-  unfolding curveOrder
-  long-curve few h =
-      first-passes _ _ _ (false-of (ltb 201 k) (λ t. omega (arith, few, less 201 k .0 t))) ∙
-      first-applies _ _ _ (long-wrong 14 l h)
-
-long-side : (l : List ℕ) → 6 < length l → firstThat (sideOrder l) ≡ refused 41
-unfolding sideOrder
-long-side l h = first-applies _ _ _ (long-wrong 1 l h)
 
 -- The first curve line of what is left is refused, or it is accepted and the later ones decide.
 module _ (S k : ℕ) (all : Judged) (rest : List ℕ) (h : 0 < length rest) where
@@ -106,8 +96,8 @@ curves-early S (suc j) k e rest h all early =
     (λ q.
     let few : k ≤ 201 = omega (arith, e) in
     next-refused S k early (take m rest) cut-there
-    (long-curve S k (firstLine (take m rest)) few (long-line m rest h (omega arith) q)) ∙
-    sym (next-refused S k all rest there (long-curve S k (firstLine rest) few q)))
+    (curve-wrong S k (firstLine (take m rest)) few (long-wrong 14 (firstLine (take m rest)) (long-line m rest h (omega arith) q))) ∙
+    sym (next-refused S k all rest there (curve-wrong S k (firstLine rest) few (long-wrong 14 (firstLine rest) q))))
   where
     rest-cut : (j : ℕ) (rest : List ℕ) → 71 * suc j + 1 ≤ length rest →
         drop 71 (take (71 * suc j + 1) rest) ≡ take (71 * j + 1) (drop 71 rest)
@@ -136,8 +126,8 @@ judge-early input =
     sym (side-accepted input a))
     (λ n r. side-refused first (rw same r) ∙ sym (side-refused input r)))
     (λ q.
-    side-refused first (long-side (firstLine first) (long-line 14207 input h (lit< tt) q)) ∙
-    sym (side-refused input (long-side (firstLine input) q))))
+    side-refused first (side-wrong (firstLine first) (long-wrong 1 (firstLine first) (long-line 14207 input h (lit< tt) q))) ∙
+    sym (side-refused input (side-wrong (firstLine input) (long-wrong 1 (firstLine input) q)))))
 
 -- The first 14207 bytes decide the output.
 pub output-early : (input : List ℕ) → output (take 14207 input) ≡ output input

@@ -1,16 +1,15 @@
 -- How a sheet is judged, line by line: what line 1 decides, what a curve line decides, and what is known of a good sheet.
 use mathlib.Core.Path.{_≡_, refl, sym, _∙_, ap, subst}
-use mathlib.Core.Logic.{⊎-elim}
-use mathlib.Core.Bool.{Bool, true, false, not, cond, true≢false, _&&_}
-use mathlib.Core.List.{List, [], _∷_, _++_, map}
-use Prim.Native.Nat.{ℕ, zero, suc, _+_, _-_, _*_, _≤_, _<_}
+use mathlib.Core.Bool.{true, false}
+use mathlib.Core.List.{List, [], _∷_, map}
+use Prim.Native.Nat.{ℕ, suc, _+_, _-_, _≤_, _<_}
 use native.Mathlib.Omega.{arith}
-use lib.Dec.{T, eqb, ltb}
-use lib.ListN.{length, getD, drop, length-drop, length-map, drop-of-length-le}
+use lib.Dec.{eqb, ltb}
+use lib.ListN.{length, drop, length-drop, length-map, drop-of-length-le}
 use lib.Seq.{drop-drop}
-use Rattle.decide.specs.Refusal.{Verdict, _when_, accepted, refused, firstThat}
+use Rattle.decide.specs.Refusal.{accepted, refused, firstThat}
 use Rattle.decide.proofs.Refusal.{by-verdict, accepted-passes}
-use Rattle.decide.proofs.Truth.{both, both-false, false-iff, false-of, equal, less, not-less, decided}
+use Rattle.decide.proofs.Truth.{both-false, false-iff, false-of, equal, less, not-less}
 use Rattle.cube.proofs.Words.{side-in}
 use Rattle.decide.specs.Some.{someBelow}
 use Rattle.decide.proofs.Some.{some-below}
@@ -23,6 +22,7 @@ use Rattle.sheet.specs.Sheet.{judge}
 use Rattle.sheet.specs.Call.{drew, said}
 use Rattle.sheet_lines.specs.Read.{firstLine, fits}
 use Rattle.sheet_lines.proofs.Lines.{lines-first, first-within, line-length}
+use Rattle.sheet_lines.proofs.Fits.{points-at}
 
 -- What an accepted curve line passes.
 pub record Passes (S k : ℕ) (l : List ℕ) : Type 0 where
@@ -39,23 +39,6 @@ passes l e =
     let c = accepted-passes _ _ _ (b .1) in
     record { few = a .0; whole = line-length 14 l (b .0); fields-good = c .0; drawn = c .1 }
 
--- Under the places of a list, a map is the function of its elements.
-at-map : (f : ℕ → ℕ) (xs : List ℕ) (k : ℕ) → k < length xs → getD (map f xs) k 0 ≡ f (getD xs k 0)
-at-map f [] k h = absurd (omega arith)
-at-map f (x ∷ xs) zero h = refl
-at-map f (x ∷ xs) (suc k) h = at-map f xs k (omega arith)
-
--- The coordinates of a curve line are its fields from number 2 on.
-pub point-at : (l : List ℕ) (k : ℕ) → k < 12 → getD (strokeOf l .points) k 0 ≡ number l (k + 2)
-unfolding someBelow
-point-at l k h =
-    let fields : List ℕ = 2 ∷ 3 ∷ 4 ∷ 5 ∷ 6 ∷ 7 ∷ 8 ∷ 9 ∷ 10 ∷ 11 ∷ 12 ∷ 13 ∷ [] in
-    let p : ℕ → Bool = λ k. not (eqb (getD fields k 0) (k + 2)) in
-    let from-2 : getD fields k 0 ≡ k + 2 =
-    ⊎-elim (λ t. equal (getD fields k 0) (k + 2) .0 t) (λ n. absurd (some-below p 12 .1 (k, h, rw (false-of (eqb (getD fields k 0) (k + 2)) n) tt)))
-    (decided (eqb (getD fields k 0) (k + 2))) in
-    at-map (number l) fields k h ∙ ap (number l) from-2
-
 -- An accepted curve line of a sheet whose side is at most 40 fits a record, and its stroke is drawn.
 module _ {S k : ℕ} {l : List ℕ} (p : Passes S k l) where
   drawable : Drawable S (objectOf (strokeOf l)) × (false ≡ false) × (markOut (number l 0) ≡ false) × (false ≡ false)
@@ -66,7 +49,7 @@ module _ {S k : ℕ} {l : List ℕ} (p : Passes S k l) where
   passes-fits h =
       let bytes : someBelow 12 (λ k. ltb 255 (number l (k + 2))) ≡ false =
       false-of _ (λ t. let w = some-below (λ k. ltb 255 (number l (k + 2))) 12 .0 t in
-      omega (arith, h, drawable .0 .coordinate-below (w .0) (w .1), point-at l (w .0) (w .1), less 255 (number l (w .0 + 2)) .0 (w .2)))
+      omega (arith, h, drawable .0 .coordinate-below (w .0) (w .1), points-at l (w .0) (w .1), less 255 (number l (w .0 + 2)) .0 (w .2)))
       in
       rw (p .fields-good, drawable .2, bytes) refl
 

@@ -1,39 +1,24 @@
 -- The verdict of a line from what is read of it.
-use mathlib.Core.Path.{_≡_, refl, sym, _∙_, ap, subst}
+use mathlib.Core.Path.{_≡_, refl, sym, _∙_, ap}
 use mathlib.Core.Logic.{⊎-elim}
-use mathlib.Core.Bool.{Bool, true, false, not, or-false, true≢false}
+use mathlib.Core.Bool.{Bool, true, false, not}
 use mathlib.Core.List.{List, [], _∷_}
 use Prim.Native.Nat.{ℕ, _+_, _*_, _≤_, _<_}
 use native.Mathlib.Omega.{arith}
-use lib.Dec.{T, eqb, ltb}
-use lib.ListN.{length, getD, take}
-use Rattle.decide.specs.Some.{someBelow, someOf}
+use lib.Dec.{ltb}
+use lib.ListN.{length, take}
 use Rattle.decide.specs.Refusal.{_when_, accepted, refused, firstThat}
-use Rattle.decide.proofs.Some.{some-below, some-of}
 use Rattle.decide.proofs.Refusal.{first-applies, first-passes, first-empty}
-use Rattle.decide.proofs.Truth.{decided, false-of, true-of, less, not-less}
+use Rattle.decide.proofs.Truth.{decided, false-of, true-of, less}
 use Rattle.cube.specs.Cube.{sideOut}
 use Rattle.cube.proofs.Words.{side-in}
-use Rattle.drawing.specs.Refusals.{order, checkVerdict, countOut, coordinateOut, stepsTooLong}
-use Rattle.drawing.proofs.Accepted.{coordinate-in}
 use Rattle.sheet.specs.Field.{isBad}
-use Rattle.sheet.specs.Line.{field, number, isWrong, someBad}
-use Rattle.sheet.specs.Sheet.{strokeOf, objectOf, sideOrder, markOut, curveOrder}
-use Rattle.sheet_lines.specs.Read.{readField, firstLine, fits, unfitRefusal}
+use Rattle.sheet.specs.Line.{field, number, isWrong}
+use Rattle.sheet.specs.Sheet.{sideOrder, curveOrder}
+use Rattle.sheet_lines.specs.Read.{readField, firstLine}
 use Rattle.sheet_lines.proofs.Lines.{first-prefix, line-length}
 use Rattle.sheet_lines.proofs.Fields.{good-read, good-below, bad-is}
-use Rattle.sheet_lines.proofs.Fits.{fits-parts, fields-good, field-bad}
-use Rattle.sheet_cube.proofs.Judged.{point-at}
-
--- A test is true or false.
-by-test : (b : Bool) {P : Type 0} → (b ≡ true → P) → (b ≡ false → P) → P
-by-test true t f = t refl
-by-test false t f = f refl
-
--- A curve has one count.
-counts : (n : ℕ) {b : Bool} → countOut 512 n ≡ b → someOf (countOut 512) (n ∷ []) ≡ b
-unfolding someOf
-counts n {b} e = rw e (or-false b)
+use Rattle.sheet_lines.proofs.Fits.{fields-good, field-bad}
 
 twice : (b : Bool) → not (not b) ≡ b
 twice true = refl
@@ -103,6 +88,10 @@ module _ (line : List ℕ) where
           side-passes a (omega arith) ∙
           first-passes _ _ _ (false-of _ (λ t. omega (arith, b, side-read, less 40 (number line 0) .0 t))) ∙ first-empty
 
+-- A side that a sheet has is in range.
+pub side-there : {S : ℕ} → 2 ≤ S → S ≤ 40 → sideOut S ≡ false
+side-there {S} a b = false-of (sideOut S) (side-in S .1 (a, omega arith))
+
 -- A curve line, line number k.
 module _ (S k : ℕ) (line : List ℕ) (few : k ≤ 201) where
   not-many : ltb 201 k ≡ false
@@ -111,57 +100,3 @@ module _ (S k : ℕ) (line : List ℕ) (few : k ≤ 201) where
   pub curve-wrong : isWrong 14 line ≡ true → firstThat (curveOrder S k line) ≡ refused 41
   unfolding curveOrder
   curve-wrong w = first-passes _ _ _ not-many ∙ first-applies _ _ _ w
-
-  module _ (w : isWrong 14 line ≡ false) where
-    -- 44 and 41 do not apply.
-    from-42 : firstThat (curveOrder S k line) ≡
-        firstThat (42 when someBad 14 line ∷ order S (objectOf (strokeOf line)) false (markOut (number line 0)) false)
-    unfolding curveOrder
-    from-42 = first-passes _ _ _ not-many ∙ first-passes _ _ _ w
-
-    -- A line that fits is judged as a check judges its curve.
-    pub curve-fits : fits line ≡ true → firstThat (curveOrder S k line) ≡ checkVerdict S (objectOf (strokeOf line))
-    unfolding checkVerdict
-    curve-fits e =
-        let p = fits-parts line .0 e in
-        from-42 ∙ first-passes _ _ _ (p .0) ∙
-        ap (λ m. firstThat (order S (objectOf (strokeOf line)) false m false)) (p .1)
-
-    -- One that does not has a bad field, or else a mark, a step count or a coordinate out of range.
-    module _ (least : 2 ≤ S) (most : S ≤ 40) (e : fits line ≡ false) where
-      side-there : sideOut S ≡ false
-      side-there = false-of _ (side-in S .1 (least, omega arith))
-
-      -- No field is bad and the mark is in range, so some coordinate is above 255.
-      large : someBad 14 line ≡ false → markOut (number line 0) ≡ false →
-          T (someOf (coordinateOut S) (strokeOf line .points))
-      large f m =
-          let p : ℕ → Bool = λ k. ltb 255 (number line (k + 2)) in
-          let some : someBelow 12 p ≡ true =
-          by-test (someBelow 12 p) (λ t. t) (λ n. absurd (true≢false (sym (fits-parts line .1 (f, m, n)) ∙ e))) in
-          let w = some-below p 12 .0 (subst T (sym some) tt) in
-          let c : ℕ = getD (strokeOf line .points) (w .0) 0 in
-          let above = less 255 (number line (w .0 + 2)) .0 (w .2) in
-          some-of (coordinateOut S) (strokeOf line .points) .1 (
-            w .0,
-            w .1,
-            ⊎-elim (λ t. t)
-                (λ n. absurd (omega (arith, most, above, point-at line (w .0) (w .1), coordinate-in S c .0 n)))
-                (decided (coordinateOut S c)),
-          )
-
-      pub curve-unfit : firstThat (curveOrder S k line) ≡ refused (unfitRefusal line)
-      unfolding unfitRefusal order
-      curve-unfit =
-          by-test (someBad 14 line)
-          (λ f. let r : unfitRefusal line ≡ 42 = rw f refl in from-42 ∙ first-applies _ _ _ f ∙ ap refused (sym r))
-          (λ f. from-42 ∙ first-passes _ _ _ f ∙ first-passes _ _ _ side-there ∙ first-passes _ _ _ refl ∙
-          by-test (markOut (number line 0))
-          (λ m. let r : unfitRefusal line ≡ 12 = rw (f, m) refl in first-applies _ _ _ m ∙ ap refused (sym r))
-          (λ m. first-passes _ _ _ m ∙
-          by-test (countOut 512 (number line 1))
-          (λ n. let r : unfitRefusal line ≡ 13 = rw (f, m, n) refl in first-applies _ _ _ (counts (number line 1) n) ∙ ap refused (sym r))
-          (λ n.
-          let r : unfitRefusal line ≡ 14 = rw (f, m, n) refl in
-          first-passes _ _ _ (counts (number line 1) n) ∙ first-passes _ _ _ refl ∙ first-applies _ _ _ (true-of _ (large f m)) ∙
-          ap refused (sym r))))

@@ -1,6 +1,6 @@
 // The drawing of a good sheet.
 ghost use mathlib.Core.Path.{_≡_};
-ghost use Prim.Native.Nat.{_≤_, _<_, _*_};
+ghost use Prim.Native.Nat.{_<_, _*_};
 ghost use lib.ListN.{length, replicate};
 ghost use Rattle.cube.specs.Cube.{volume};
 ghost use Rattle.sheet.specs.Sheet.{judge};

@@ -1,6 +1,5 @@
 // The refusals of a sheet's lines.
 ghost use mathlib.Core.Path.{_≡_};
-ghost use mathlib.Core.List.{length};
 ghost use Prim.Native.Nat.{_≤_, _<_};
 ghost use Rattle.decide.specs.Refusal.{accepted, firstThat};
 ghost use Rattle.sheet.specs.Line.{number};

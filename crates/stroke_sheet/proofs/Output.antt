@@ -9,7 +9,7 @@ use lib.Seq.{take-append-seam, length-take-le}
 use borrow.Author.Tests.{ne-eqb}
 use Rattle.sheet.specs.Printed.{cellLines, listing, refusalLine, output}
 use Rattle.sheet.proofs.Parts.{part-append, part-all}
-use Rattle.decide.specs.Refusal.{Verdict, accepted}
+use Rattle.decide.specs.Refusal.{Verdict}
 use Rattle.cube.specs.Cube.{volume}
 use Rattle.sheet.specs.Part.{part}
 use Rattle.sheet.specs.Call.{drew, refused}

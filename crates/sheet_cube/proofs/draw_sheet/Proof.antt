@@ -17,7 +17,9 @@ use Rattle.sheet_cube.proofs.draw_sheet.Statement.{statement}
 use Rattle.sheet_cube.proofs.draw_sheet.Tie as tie
 
 returns : tie.Need-returns
-returns c = let s = c .before .before .before in buffer-call (s .args .input .now) (s .args .buffer .now) (c .if1 .taken)
+returns c =
+    let s = c .before .before .before in
+    buffer-call (s .args .input .now) (s .args .buffer .now) (λ e. omega (arith, e, c .if1 .taken))
 
 judge-sheet-requires : tie.Need-judge-sheet-requires
 judge-sheet-requires c κs = search needs

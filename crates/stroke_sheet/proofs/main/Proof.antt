@@ -1,6 +1,6 @@
 -- `main` is safe and ends: what is read lies within the input's buffer.
 use borrow.Author.Needs.{needs}
-use mathlib.Core.Path.{_≡_, sym}
+use mathlib.Core.Path.{sym}
 use native.Mathlib.Omega.{arith}
 use lib.Seq.{length-take-le}
 use Rattle.stroke_sheet.proofs.main.Statement.{statement}

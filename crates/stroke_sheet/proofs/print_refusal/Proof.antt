@@ -1,6 +1,6 @@
 -- `print_refusal` meets its contract: what is written is the refusal line.
 use borrow.Author.Needs.{needs}
-use mathlib.Core.Path.{_≡_, sym, subst}
+use mathlib.Core.Path.{sym}
 use lib.Seq.{length-take-le}
 use Rattle.stroke_sheet.proofs.Output.{front}
 use Rattle.stroke_sheet.proofs.print_refusal.Statement.{statement}

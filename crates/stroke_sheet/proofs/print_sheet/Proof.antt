@@ -1,12 +1,9 @@
 -- `print_sheet` meets its contract: the cube of an accepted sheet lies within the buffer.
 use borrow.Author.Needs.{needs}
-use mathlib.Core.Path.{_≡_, sym, _∙_, ap}
-use native.Mathlib.Omega.{arith}
+use mathlib.Core.Path.{sym, _∙_, ap}
 use Prim.Native.Nat.{_≤_}
 use lib.ListN.{length}
 use lib.Seq.{length-take-le}
-use Rattle.cube.specs.Cube.{volume}
-use Rattle.sheet.specs.Call.{drew}
 use Rattle.sheet_cube.specs.Answer.{saidOf}
 use Rattle.sheet_cube.proofs.Called.{side-least, side-most, cube-within}
 use Rattle.stroke_sheet.proofs.print_sheet.Statement.{statement}

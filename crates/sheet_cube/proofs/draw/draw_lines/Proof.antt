@@ -1,12 +1,11 @@
 -- `draw_lines` meets its contract: what is left to draw, drawn into the cube so far, gives the sheet's cube.
 use borrow.Author.Needs.{needs}
-use mathlib.Core.Path.{_≡_, refl, sym, _∙_, ap, subst}
+use mathlib.Core.Path.{_≡_, sym, _∙_, ap, subst}
 use mathlib.Core.List.{List}
 use Prim.Native.Nat.{ℕ, _+_, _-_, _*_, _≤_, _<_}
 use native.Mathlib.Omega.{arith}
 use native.Mathlib.Numerals.{add-one}
 use lib.ListN.{length, take, drop}
-use Rattle.cube.specs.Cube.{volume}
 use Rattle.curve.specs.Curve.{curveOf}
 use Rattle.sheet.specs.Sheet.{strokeOf, objectOf}
 use Rattle.sheet_cube.proofs.Judged.{Passes, passes-fits, passes-draws}

@@ -1,20 +1,20 @@
 -- `judge_curve` meets its contract: a line that fits is judged by its curve, another by what does not fit.
 use borrow.Author.Needs.{needs}
-use mathlib.Core.Path.{_≡_, sym, _∙_, ap}
-use mathlib.Core.Bool.{true, false}
+use mathlib.Core.Path.{sym, _∙_, ap}
 use mathlib.Core.List.{List}
 use Prim.Native.Nat.{ℕ, _≤_}
 use native.Mathlib.Omega.{arith}
 use Rattle.decide.specs.Refusal.{refused}
 use Rattle.drawing.specs.Refusals.{checkVerdict}
 use Rattle.sheet.proofs.Sheet.{too-many-lines}
-use Rattle.sheet_lines.specs.Read.{firstLine, fits, unfitRefusal}
-use Rattle.sheet_cube.proofs.Verdicts.{WholeLine, is-wrong, is-whole, curve-wrong, curve-fits, curve-unfit}
+use Rattle.sheet_lines.specs.Read.{firstLine}
+use Rattle.sheet_cube.proofs.Verdicts.{WholeLine, is-wrong, is-whole, curve-wrong, side-there}
+use Rattle.sheet_lines.proofs.Order.{fit-judged, unfit-refused}
 use Rattle.sheet_cube.proofs.judge.judge_curve.Statement.{statement}
 use Rattle.sheet_cube.proofs.judge.judge_curve.Tie as tie
 
 returns : tie.Need-returns
-returns c = sym (too-many-lines (c .before .before .args .side) _ (firstLine (c .before .before .args .rest .now)) (c .if1 .taken))
+returns c = sym (too-many-lines (c .before .before .args .side) _ (firstLine (c .before .before .args .rest .now)) (omega (arith, c .if1 .taken)))
 
 is-line-requires : tie.Need-is-line-requires
 is-line-requires c κs = search needs
@@ -59,7 +59,7 @@ returns-3 c =
     let w = first e in
     let r = rw (w .taken) at (t .before .read-curve .ensures) in
     c .check-curve .ensures ∙ ap (checkVerdict (start s .args .side)) (r .1 (t .if3 .taken)) ∙
-    sym (curve-fits (start s .args .side) _ _ (few s) (w .right) (sym (r .0) ∙ t .if3 .taken))
+    sym (fit-judged (start s .args .side) _ _ (few s) (w .right) (sym (r .0) ∙ t .if3 .taken))
 
 returns-4 : tie.Need-returns-4
 returns-4 c =
@@ -69,7 +69,7 @@ returns-4 c =
     let w = first e in
     let r = rw (w .taken) at (t .before .read-curve .ensures .0) in
     ap refused (rw (w .taken) at (c .refusal-of .ensures)) ∙
-    sym (curve-unfit (start s .args .side) _ _ (few s) (w .right) (start s .pre .0) (start s .pre .1) (sym r ∙ t .if3 .left))
+    sym (unfit-refused (start s .args .side) _ _ (few s) (w .right) (side-there (start s .pre .0) (start s .pre .1)) (sym r ∙ t .if3 .left))
 
 pub judge-curve-spec : {M : Type 1} → statement M
 judge-curve-spec =

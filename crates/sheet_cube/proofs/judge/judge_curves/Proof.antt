@@ -1,6 +1,6 @@
 -- `judge_curves` meets its contract: every line before the present one is accepted.
 use borrow.Author.Needs.{needs}
-use mathlib.Core.Path.{_≡_, refl, sym, _∙_, ap}
+use mathlib.Core.Path.{_≡_, sym, _∙_, ap}
 use mathlib.Core.List.{List}
 use Prim.Native.Nat.{ℕ, _+_, _-_, _≤_, _<_}
 use native.Mathlib.Numerals.{add-one}
@@ -14,7 +14,7 @@ use Rattle.sheet.specs.Sheet.{curveOrder}
 use Rattle.sheet.specs.Call.{said}
 use Rattle.sheet_lines.specs.Read.{firstLine}
 use Rattle.sheet_lines.proofs.Lines.{first-within}
-use Rattle.sheet_cube.proofs.Judged.{Left, PassesSide, passes-side, passes, left-start, left-none, left-refused, left-more, line-within}
+use Rattle.sheet_cube.proofs.Judged.{Left, passes-side, passes, left-start, left-none, left-refused, left-more, line-within}
 use Rattle.sheet_cube.proofs.judge.judge_curves.Statement.{statement}
 use Rattle.sheet_cube.proofs.judge.judge_curves.Tie as tie
 

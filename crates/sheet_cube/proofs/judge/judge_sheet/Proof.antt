@@ -1,7 +1,6 @@
 -- `judge_sheet` meets its contract: line 1 is refused, or the curve lines decide.
 use borrow.Author.Needs.{needs}
-use mathlib.Core.Path.{_≡_, sym, ap, subst}
-use mathlib.Core.List.{List}
+use mathlib.Core.Path.{sym, ap, subst}
 use Rattle.sheet.specs.Call.{said}
 use Rattle.sheet_lines.specs.Read.{firstLine}
 use Rattle.sheet_cube.specs.Lines.{SideOf}

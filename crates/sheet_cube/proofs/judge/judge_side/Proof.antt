@@ -1,11 +1,10 @@
 -- `judge_side` meets its contract: the side, or the first number of line 1's order that applies.
 use borrow.Author.Needs.{needs}
-use mathlib.Core.Path.{_≡_, refl, sym, _∙_, ap}
+use mathlib.Core.Path.{_≡_, sym, _∙_}
 use mathlib.Core.Bool.{false}
 use mathlib.Core.List.{List}
-use Prim.Native.Nat.{ℕ, _≤_, _<_}
+use Prim.Native.Nat.{ℕ, _<_}
 use native.Mathlib.Omega.{arith}
-use lib.ListN.{length, take}
 use Rattle.sheet_lines.specs.Read.{firstLine, readField}
 use Rattle.sheet.specs.Line.{field, isWrong}
 use Rattle.sheet_lines.proofs.Fields.{read-most}
