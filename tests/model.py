@@ -393,15 +393,19 @@ def draw_sheet(text, buffer):
     return SheetAnswer(None, None, side, len(lines) - 1, grid + bytes(buffer[len(grid) :]))
 
 
-def sheet_output(text):
-    """What the sheet program prints: "a heading, then x, y, z and mark of each marked cell, in rising byte place"."""
-    answer = draw_sheet(text, bytes(BUFFER_LENGTH))
+def sheet_printed(answer):
+    """A sheet call's answer in print: "a heading, then x, y, z and mark of each marked cell, in rising byte place"."""
     if answer.refusal is not None:
         return b"REFUSED" + format_line(answer.refusal, answer.line)
     cube = product(range(answer.side), repeat=3)
     by_place = sorted((place(answer.side, cell), cell) for cell in cube)
     marked = ((*cell, answer.buffer[at]) for at, cell in by_place if answer.buffer[at] != 0)
     return HEADING + b"".join(format_line(*numbers) for numbers in marked)
+
+
+def sheet_output(text):
+    """What the sheet program prints, from "standard input" to the listing or the one line of a refused sheet."""
+    return sheet_printed(draw_sheet(text, bytes(BUFFER_LENGTH)))
 
 
 # Demand 3, for a list of calls (side, record) and the grids before the first call and after each call

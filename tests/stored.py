@@ -27,7 +27,7 @@ def malformed(case):
 
 
 def store(program, records):
-    """Writes a program's stdin and stdout from pairs of a case and its answer; the exit status.
+    """Writes a program's stdin and stdout from pairs of a case and its answer, a byte for each character; the exit status.
 
     With `--check` it writes nothing, and the status is 1 if they are not what it would write.
     """
@@ -37,9 +37,9 @@ def store(program, records):
     for name, text in files.items():
         path = CRATES / program / name
         if "--check" in sys.argv[1:]:
-            if not path.exists() or path.read_bytes() != text.encode():
+            if not path.exists() or path.read_bytes() != text.encode("latin-1"):
                 print(f"{path}: not what the model gives")
                 wrong = 1
         else:
-            path.write_bytes(text.encode())
+            path.write_bytes(text.encode("latin-1"))
     return wrong
