@@ -1,15 +1,16 @@
 -- The number that the bits of a channel stand for: a significand times a power of two, in units of 2 ^ -149.
 use mathlib.Core.Path.{_≡_, refl, sym, _∙_, subst}
-use Prim.Native.Nat.{ℕ, zero, suc, _+_, _*_, _/_, _%_, _^_, _<_}
+use Prim.Native.Nat.{ℕ, zero, suc, _+_, _*_, _/_, _%_, _^_, _≤_, _<_}
+use native.Mathlib.Nat.{lt-of-not-le}
 use native.Mathlib.Omega.{arith}
 use mathlib.Core.Bool.{Bool, true, false, cond}
-use lib.Dec.{T, leb, eqb}
+use lib.Dec.{T, leb, eqb, le→leb}
 use lib.Ieee.{Float, nan, inf, binary32, odd, ofFields, ofBits, toBits, fits}
 use lib.Ieee.Bits.{ofBits-toBits}
-use lib.Ieee.Exact.{odd-sign}
+use lib.Ieee.Exact.{HasValue, odd-sign}
 use lib.Ieee.Positive.{num, den}
 use Rattle.swatch.specs.Channel.{inRange}
-use Rattle.swatch.proofs.Order.{range-nonneg, value-cross}
+use Rattle.swatch.proofs.Order.{range-nonneg, value-minus, value-cross}
 
 -- The exponent's field of a bit pattern.
 abbrev pub exponentField : ℕ → ℕ
@@ -38,33 +39,50 @@ pub significand-lt : (x b : ℕ) → significand x (fractionField b) < 2 ^ 24
 significand-lt zero b = omega arith
 significand-lt (suc x) b = omega arith
 
--- The value of three fields.
-fields-value : (s : Bool) (x t : ℕ) → T (inRange (ofFields binary32 s x t))
-    → num (ofFields binary32 s x t) * 2 ^ 149 ≡ significand x t * 2 ^ exponent x * den (ofFields binary32 s x t)
+-- The sign and the value of three fields.
+fields-has : (s : Bool) (x t : ℕ) → T (inRange (ofFields binary32 s x t))
+    → HasValue (ofFields binary32 s x t) s (significand x t * 2 ^ exponent x) (2 ^ 149)
 unfolding ofFields
-fields-value s zero t h = value-cross (odd 24 s t 0 149) s (t * 2 ^ 0) (2 ^ 149) (odd-sign 24 s t 0 149)
-fields-value s (suc x) t h = go (eqb (suc x) 255) (eqb t 0) h
+fields-has s zero t h = odd-sign 24 s t 0 149
+fields-has s (suc x) t h = go (eqb (suc x) 255) (eqb t 0) h
   where
     go : (a b : Bool) → T (inRange (cond a (cond b (inf s) nan) (odd 24 s (8388608 + t) x 149)))
-        → num (cond a (cond b (inf s) nan) (odd 24 s (8388608 + t) x 149)) * 2 ^ 149
-        ≡ (8388608 + t) * 2 ^ x * den (cond a (cond b (inf s) nan) (odd 24 s (8388608 + t) x 149))
+        → HasValue (cond a (cond b (inf s) nan) (odd 24 s (8388608 + t) x 149)) s ((8388608 + t) * 2 ^ x) (2 ^ 149)
     go true true k = absurd (range-nonneg (inf s) k)
     go true false k = absurd (range-nonneg nan k)
-    go false b k =
-        value-cross (odd 24 s (8388608 + t) x 149) s ((8388608 + t) * 2 ^ x) (2 ^ 149)
-        (odd-sign 24 s (8388608 + t) x 149)
+    go false b k = odd-sign 24 s (8388608 + t) x 149
 
 -- A pattern is read by its fields.
 ofBits-fields : (b : ℕ) → ofBits binary32 b ≡ ofFields binary32 (leb 2147483648 b) (exponentField b) (fractionField b)
 unfolding ofBits
 ofBits-fields b = refl
 
--- A channel from 0 to 1 is as many units as its bits say.
+-- A channel from 0 to 1 has the sign and as many units as its bits say.
+bits-has : (v : Float) → T (fits binary32 v) → T (inRange v)
+    → HasValue v (leb 2147483648 (toBits binary32 v)) (units (toBits binary32 v)) (2 ^ 149)
+bits-has v F h =
+    let b = toBits binary32 v in
+    let e = sym (ofBits-fields b) ∙ ofBits-toBits binary32 v F in
+    subst (λ (w : Float). HasValue w (leb 2147483648 b) (units b) (2 ^ 149)) e
+    (fields-has (leb 2147483648 b) (exponentField b) (fractionField b)
+    (subst (λ (w : Float). T (inRange w)) (sym e) h))
+
+-- Its value, cross-multiplied.
 pub bits-value : (v : Float) → T (fits binary32 v) → T (inRange v)
     → num v * 2 ^ 149 ≡ units (toBits binary32 v) * den v
 bits-value v F h =
     let b = toBits binary32 v in
-    let e = sym (ofBits-fields b) ∙ ofBits-toBits binary32 v F in
-    subst (λ (w : Float). num w * 2 ^ 149 ≡ units b * den w) e
-    (fields-value (leb 2147483648 b) (exponentField b) (fractionField b)
-    (subst (λ (w : Float). T (inRange w)) (sym e) h))
+    value-cross v (leb 2147483648 b) (units b) (2 ^ 149) (bits-has v F h)
+
+-- No number is 0 and above 0.
+zero-above : (n : ℕ) → n ≡ 0 → 0 < n → ⊥
+zero-above n h k = omega arith
+
+-- A channel above 0 has no minus.
+pub bits-plus : (v : Float) → T (fits binary32 v) → T (inRange v) → 0 < num v → toBits binary32 v < 2147483648
+bits-plus v F h p =
+    let b = toBits binary32 v in
+    lt-of-not-le
+    (λ (k : 2147483648 ≤ b).
+    let s = le→leb 2147483648 b k in
+    zero-above (num v) (value-minus v (leb 2147483648 b) (units b) (2 ^ 149) (bits-has v F h) (range-nonneg v h) s) p)

@@ -2,12 +2,12 @@
 -- lower channel is held, so it is at most the rounded half of that; and likewise from above.
 use mathlib.Core.Path.{_≡_, refl, sym, ap, _∙_, subst}
 use Prim.Native.Nat.{ℕ, zero, suc, _+_, _-_, _*_, _^_, _≤_, _<_}
-use native.Mathlib.Nat.{le-refl, le-of-lt, lt-of-not-le, mul-pos, mul-le-mul-right, pow-succ'}
+use native.Mathlib.Nat.{le-refl, mul-pos, mul-le-mul-right, pow-succ'}
 use native.Mathlib.Omega.{arith}
 use mathlib.Core.Bool.{Bool, true, false, not, cond, _&&_, true≢false}
 use borrow.Author.Tests.{ltb-false, le-ltb}
 use lib.IntN.{ℤ, pos, negsuc}
-use lib.Dec.{T, ltb, lit<, eqb→eq, T-not}
+use lib.Dec.{T, ltb, lit<, eqb→eq}
 use lib.Pow.{pow-pos}
 use lib.Ieee.{Float, nan, inf, fin, up, down, binary32, round, sum, add, mul, le, fits}
 use lib.Ieee.Exact.{HasValue}
@@ -20,6 +20,7 @@ use Rattle.swatch.proofs.Order.{
   zero-size,
   le→fractions,
   fractions→le,
+  le-or-ge,
   range-nonneg,
   range-le-one,
 }
@@ -96,11 +97,6 @@ module _ (na da nb db : ℕ) (A : 0 < da) (B : 0 < db) (a-le : na ≤ da) (b-le 
       subst (λ (x : Float). num x * c ≤ n * den x) (sym half-is)
       (rounded-below n c (num total * 1) (den total * 2) C (mul-pos (den-pos total) (lit< tt)) H half-le-two
       (omega arith))
-
--- Two values in order, either way.
-le-or-ge : (a b : Float) → NonNegative a → NonNegative b → T (not (le a b)) → num b * den a ≤ num a * den b
-le-or-ge a b p q n =
-    le-of-lt (lt-of-not-le (λ (g : num a * den b ≤ num b * den a). T-not (le a b) n (fractions→le a b p q g)))
 
 -- The bounds, from what holds of a channel that is at most both and of one that is at least both.
 bounds : (a b r : Float) → NonNegative a → NonNegative b

@@ -6,6 +6,7 @@ use native.Mathlib.Nat.{
   le-trans,
   le-of-eq,
   le-of-lt,
+  lt-of-not-le,
   eq-or-lt-of-le,
   eq-zero-or-pos,
   zero-mul,
@@ -17,7 +18,7 @@ use native.Mathlib.Nat.{
 use native.Mathlib.Omega.{arith}
 use mathlib.Core.Bool.{Bool, true, false, not, _&&_, _||_}
 use lib.IntN.{ℤ}
-use lib.Dec.{T, ltb, eqb, eqb→eq, ltb→lt, lt→ltb}
+use lib.Dec.{T, T-not, ltb, eqb, eqb→eq, ltb→lt, lt→ltb}
 use lib.Ieee.{Float, nan, inf, fin, up, down, below, level, le, isNan}
 use lib.Ieee.Fits.{up-pos, and-i, and-l, and-r, eq→eqb}
 use lib.Ieee.Exact.{HasValue}
@@ -95,6 +96,11 @@ fractions→le (fin s m e) (fin t n d) p q h =
     le→signed s t (m * up e * down d) (n * up d * down e)
     (λ k. zero-size m (up e) (down d) (p k)) (λ k. zero-size n (up d) (down e) (q k)) h
 
+-- Two values in order, either way.
+pub le-or-ge : (x y : Float) → NonNegative x → NonNegative y → T (not (le x y)) → num y * den x ≤ num x * den y
+le-or-ge x y p q n =
+    le-of-lt (lt-of-not-le (λ (g : num x * den y ≤ num y * den x). T-not (le x y) n (fractions→le x y p q g)))
+
 -- A finite value that 0 is at most.
 from-zero : (s : Bool) (m : ℕ) (e : ℤ) → T (le zero32 (fin s m e)) → T s → m ≡ 0
 unfolding le
@@ -145,6 +151,12 @@ pub value-nonneg : (v : Float) (n d : ℕ) → HasValue v false n d → NonNegat
 value-nonneg nan n d h = absurd h
 value-nonneg (inf t) n d h = absurd h
 value-nonneg (fin t m e) n d h = λ k. absurd (subst T (h .0) k)
+
+-- A value that is not below 0 and has a minus is 0.
+pub value-minus : (v : Float) (s : Bool) (n d : ℕ) → HasValue v s n d → NonNegative v → T s → num v ≡ 0
+value-minus nan s n d h p k = absurd h
+value-minus (inf t) s n d h p k = absurd h
+value-minus (fin t m e) s n d h p k = ap (λ (z : ℕ). z * up e) (p (subst T (sym (h .0)) k)) ∙ zero-mul (up e)
 
 -- A value and a fraction that it equals, cross-multiplied.
 pub value-cross : (v : Float) (s : Bool) (n d : ℕ) → HasValue v s n d → num v * d ≡ n * den v

@@ -1,27 +1,26 @@
 // One channel of a swatch: its refusals, its coordinate, and the value half-way to another channel.
 ghost use mathlib.Core.Path.{_≡_};
-ghost use Prim.Native.Nat.{_≤_, _<_};
+ghost use mathlib.Core.Bool.{false};
+ghost use Prim.Native.Nat.{_≤_};
 ghost use lib.Dec.{T};
-ghost use Rattle.decide.specs.Refusal.{firstThat};
-ghost use Rattle.swatch.specs.Channel.{inRange, infiniteOrNan, outside, channelRefusals};
-ghost use Rattle.swatch.specs.Verdict.{verdictOf};
+ghost use Rattle.decide.specs.Refusal.{firstThat, refused};
+ghost use Rattle.swatch.specs.Channel.{inRange, infiniteOrNan, channelRefusals};
 ghost use Rattle.swatch.specs.Coordinate.{IsCoordinate};
 ghost use Rattle.swatch.specs.HalfWay.{IsHalfWayChannel};
-use crate::Verdict;
 
-// The first refusal of a channel.
-pub(crate) fn verdict(v: f32) -> Verdict
-    ensures { λ r. ⌜ verdictOf r ≡ firstThat (channelRefusals v) ⌝ }
+// Whether a channel is accepted. A NaN passes neither test, and minus zero both.
+pub(crate) fn is_accepted(v: f32) -> bool
+    ensures { λ r. ⌜ r ≡ inRange v ⌝ }
 {
-    let infinite_or_nan = is_infinite_or_nan(v);
-    let outside = is_outside(v);
-    if infinite_or_nan {
-        return Verdict::Refused(31);
-    }
-    if outside {
-        return Verdict::Refused(32);
-    }
-    Verdict::Accepted
+    0.0 <= v && v <= 1.0
+}
+
+// The number of a channel that is not accepted.
+pub(crate) fn number(v: f32) -> u32
+    requires { ⌜ inRange v ≡ false ⌝ }
+    ensures { λ r. ⌜ firstThat (channelRefusals v) ≡ refused r ⌝ }
+{
+    if is_infinite_or_nan(v) { 31 } else { 32 }
 }
 
 // A NaN is neither above nor below any number.
@@ -32,26 +31,18 @@ fn is_infinite_or_nan(v: f32) -> bool
     !(-infinity < v && v < infinity)
 }
 
-// Minus zero is not below 0.
-fn is_outside(v: f32) -> bool
-    ensures { λ r. ⌜ r ≡ outside v ⌝ }
-{
-    v < 0.0 || 1.0 < v
-}
-
-// The coordinate of an accepted channel, from its bits. With the exponent's field x and the fraction's field t,
-// v is (2^23 + t) / 2^(150 - x). Below x = 120 it is less than 1/128, and the coordinate is 0. Otherwise
-// w / 2^(149 - x) is twice v * (side - 1): rounded up and halved, it is the coordinate, and a half goes down.
+// The coordinate of an accepted channel, from its bits. A channel up to 1/128 is first raised to 1/128: both have the
+// coordinate 0, and the exponent's field x is then 120 to 127. With the fraction's field t the raised channel is
+// (2^23 + t) / 2^(150 - x), and w / 2^(149 - x) is twice its product with side - 1: rounded up and halved, it is the
+// coordinate, and a half goes down.
 pub(crate) fn coordinate(side: u32, v: f32) -> u8
     requires { ⌜ (2 ≤ side) × (side ≤ 64) ⌝ }
     requires { ⌜ T (inRange v) ⌝ }
     ensures { λ r. ⌜ IsCoordinate side v r ⌝ }
 {
-    let b = f32::to_bits(v);
-    let x = b % 0x8000_0000 / 0x80_0000;
-    if x < 120 {
-        return 0;
-    }
+    let raised = if v <= 0.0078125 { 0.0078125 } else { v };
+    let b = f32::to_bits(raised);
+    let x = b / 0x80_0000;
     let w = (0x80_0000 + b % 0x80_0000) * (side - 1);
     let c = (((w - 1) >> (149 - x)) + 1) / 2;
     c as u8

@@ -2,10 +2,12 @@
 mod channel;
 
 ghost use mathlib.Core.Path.{_≡_};
+ghost use mathlib.Core.Bool.{false, _&&_};
 ghost use Prim.Native.Nat.{_≤_};
-ghost use Rattle.decide.specs.Refusal.{firstThat, orElse};
+ghost use Rattle.decide.specs.Refusal.{firstThat, refused};
 ghost use Rattle.swatch.specs.Verdict.{verdictOf};
-ghost use Rattle.swatch.specs.Swatch.{channelsOf, swatchRefusals, AllInRange};
+ghost use Rattle.swatch.specs.Channel.{inRange};
+ghost use Rattle.swatch.specs.Swatch.{channelsOf, rgbRefusals, swatchRefusals, AllInRange};
 ghost use Rattle.swatch.specs.ToCell.{IsCell, CellSays};
 ghost use Rattle.swatch.specs.HalfWay.{IsHalfWay, HalfWaySays};
 
@@ -64,9 +66,12 @@ pub fn to_cell(side: u32, swatch: Swatch) -> CellAnswer
 pub fn half_way(a: Swatch, b: Swatch) -> HalfWayAnswer
     ensures { λ r. ⌜ HalfWaySays a b r ⌝ }
 {
-    match first_verdict(swatch_verdict(a), swatch_verdict(b)) {
+    match swatch_verdict(a) {
         Verdict::Refused(n) => HalfWayAnswer::Refused(n),
-        Verdict::Accepted => HalfWayAnswer::Mixed(rgb_half_way(channels(a), channels(b))),
+        Verdict::Accepted => match swatch_verdict(b) {
+            Verdict::Refused(n) => HalfWayAnswer::Refused(n),
+            Verdict::Accepted => HalfWayAnswer::Mixed(rgb_half_way(channels(a), channels(b))),
+        },
     }
 }
 
@@ -84,25 +89,36 @@ fn channels(swatch: Swatch) -> Rgb
     }
 }
 
-// The first of two refusals.
-fn first_verdict(a: Verdict, b: Verdict) -> Verdict
-    ensures { λ r. ⌜ verdictOf r ≡ orElse (verdictOf a) (verdictOf b) ⌝ }
-{
-    match a {
-        Verdict::Refused(n) => Verdict::Refused(n),
-        Verdict::Accepted => b,
-    }
-}
-
-// The first refusal of a swatch.
+// The first refusal of a swatch. No number is worked out for accepted channels.
 fn swatch_verdict(swatch: Swatch) -> Verdict
     ensures { λ r. ⌜ verdictOf r ≡ firstThat (swatchRefusals swatch) ⌝ }
 {
     let c = channels(swatch);
-    first_verdict(
-        channel::verdict(c.red),
-        first_verdict(channel::verdict(c.green), channel::verdict(c.blue)),
-    )
+    if rgb_accepted(c) {
+        return Verdict::Accepted;
+    }
+    Verdict::Refused(rgb_number(c))
+}
+
+// Whether three channels are accepted.
+fn rgb_accepted(c: Rgb) -> bool
+    ensures { λ r. ⌜ r ≡ (inRange (c .red) && inRange (c .green) && inRange (c .blue)) ⌝ }
+{
+    channel::is_accepted(c.red) && channel::is_accepted(c.green) && channel::is_accepted(c.blue)
+}
+
+// The number of the first of three channels that is not accepted.
+fn rgb_number(c: Rgb) -> u32
+    requires { ⌜ (inRange (c .red) && inRange (c .green) && inRange (c .blue)) ≡ false ⌝ }
+    ensures { λ r. ⌜ firstThat (rgbRefusals c) ≡ refused r ⌝ }
+{
+    if !channel::is_accepted(c.red) {
+        return channel::number(c.red);
+    }
+    if !channel::is_accepted(c.green) {
+        return channel::number(c.green);
+    }
+    channel::number(c.blue)
 }
 
 // The cell of three accepted channels.

@@ -1,39 +1,29 @@
--- `swatch_verdict` meets its contract: red, green and blue in turn.
+-- `swatch_verdict` meets its contract: three accepted channels have no refusal, and others the first one's.
+use mathlib.Core.Path.{sym, _∙_}
 use borrow.Author.Needs.{needs}
-use Rattle.swatch.proofs.Range.{rgb-first}
-use Rattle.swatch.specs.Swatch.{channelsOf}
+use Rattle.swatch.proofs.Range.{rgb-accepted}
 use Rattle.swatch.proofs.swatch_verdict.Statement.{statement}
 use Rattle.swatch.proofs.swatch_verdict.Tie as tie
+
+returns : tie.Need-returns
+returns c =
+    let s = c .before .before in
+    let e = sym (c .before .rgb-accepted .ensures) ∙ c .if1 .taken in
+    sym (rw (s .channels .ensures) at (rgb-accepted (s .channels .result) e))
+
+returns-2 : tie.Need-returns-2
+returns-2 c = sym (rw (c .before .before .before .channels .ensures) at (c .rgb-number .ensures))
 
 channels-requires : tie.Need-channels-requires
 channels-requires c κs = search needs
 
-verdict-requires : tie.Need-verdict-requires
-verdict-requires c κs = search needs
+rgb-accepted-requires : tie.Need-rgb-accepted-requires
+rgb-accepted-requires c κs = search needs
 
-verdict-requires-2 : tie.Need-verdict-requires-2
-verdict-requires-2 c κs = search needs
-
-verdict-requires-3 : tie.Need-verdict-requires-3
-verdict-requires-3 c κs = search needs
-
-first-verdict-requires : tie.Need-first-verdict-requires
-first-verdict-requires c κs = search needs
-
-first-verdict-requires-2 : tie.Need-first-verdict-requires-2
-first-verdict-requires-2 c κs = search needs
-
-returns : tie.Need-returns
-returns c = cc (rgb-first (channelsOf (c .before .before .before .before .before .before .args .swatch)))
+rgb-number-requires : tie.Need-rgb-number-requires
+rgb-number-requires c κs = sym (c .before .rgb-accepted .ensures) ∙ c .if1 .left
 
 pub swatch-verdict-spec : {M : Type 1} → statement M
 swatch-verdict-spec =
     tie.close
-    (tie.spec
-    channels-requires
-    verdict-requires
-    verdict-requires-2
-    verdict-requires-3
-    first-verdict-requires
-    first-verdict-requires-2
-    returns)
+    (tie.spec channels-requires rgb-accepted-requires returns rgb-number-requires returns-2)
