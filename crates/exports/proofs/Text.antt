@@ -1,0 +1,57 @@
+-- What is written into a text is few bytes, and its count a signed answer.
+use mathlib.Core.Path.{_≡_, sym, _∙_, ap}
+use mathlib.Core.List.{List}
+use Prim.Native.Nat.{ℕ, _^_, _<_}
+use native.Mathlib.Nat.{mul-le-mul}
+use native.Mathlib.Omega.{arith}
+use lib.Dec.{eqb}
+use lib.IntN.{ℤ, pos}
+use lib.ListN.{length, take, drop, length-append, length-take, length-drop}
+use borrow.Author.Tests.{not-false, eqb-true}
+use Rattle.decide.specs.Refusal.{Verdict, accepted, firstThat}
+use Rattle.decide.proofs.Refusal.{accepted-passes}
+use Rattle.decide.proofs.Truth.{false-iff}
+use Rattle.cube.specs.Cube.{volume}
+use Rattle.cube.proofs.Words.{side-in}
+use Rattle.sheet.specs.Part.{part, partOrder}
+use Rattle.sheet.proofs.Parts.{length-head-at-most, length-cells-at-most}
+use Rattle.sheet_listing.specs.declared.Written.{Written}
+use Rattle.sheet_listing.specs.declared.Written.the-variants.{Bytes, Refused}
+use Rattle.sheet_listing.specs.Writes.{Says, Writes}
+use Rattle.exports.specs.Signed.{signed}
+use Rattle.exports.specs.Text.{SmallWritten, numberOfWritten, WritesSigned}
+
+-- A part of a cube has at most 21 bytes for each of 262144 cells, and the heading.
+pub part-small : (S p count textLength : ℕ) (cube : List ℕ) →
+    firstThat (partOrder S count (length cube) textLength) ≡ accepted → length (part S p count cube) < 2 ^ 32
+unfolding partOrder part
+part-small S p count textLength cube e =
+    let a = accepted-passes _ _ _ e in
+    let b = accepted-passes _ _ _ (a .1) in
+    let side = side-in S .0 (false-iff _ .0 (a .0)) .1 in
+    let whole : length cube ≡ volume S = eqb-true (length cube) (volume S) (not-false (eqb (length cube) (volume S)) (b .0)) in
+    rw length-append (
+    omega (
+      arith,
+      whole,
+      mul-le-mul (mul-le-mul side side) side,
+      length-head-at-most p,
+      length-cells-at-most S p (take count (drop p cube)),
+      length-take count (drop p cube),
+      length-drop p cube,
+    )
+    )
+
+-- So what a call answers is small,
+pub small-written : (v : Verdict) (n : ℕ) (r : Written) → Says v n r → (v ≡ accepted → n < 2 ^ 32) → SmallWritten r
+small-written v n (Bytes k) s h = let l = h (s .0) in omega (arith, l, s .1)
+small-written v n (Refused k) s h = tt
+
+-- and its number a signed answer.
+pub written-signed : {v : Verdict} {bytes text after : List ℕ} {w : Written} {r : ℤ} → Writes v bytes text after w →
+    r ≡ numberOfWritten w → WritesSigned v bytes text after r
+written-signed {v} {bytes} {w = w} d e = record { answer = e ∙ number v (length bytes) w (d .answer); leaves = d .leaves }
+  where
+    number : (v : Verdict) (n : ℕ) (w : Written) → Says v n w → numberOfWritten w ≡ signed v n
+    number v n (Bytes k) s = ap pos (s .1) ∙ ap (λ u. signed u n) (sym (s .0))
+    number v n (Refused k) s = ap (λ u. signed u n) (sym s)

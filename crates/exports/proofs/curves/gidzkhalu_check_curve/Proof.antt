@@ -1,0 +1,49 @@
+-- `gidzkhalu_check_curve` meets its contract: the record's length is judged, then the call.
+use borrow.Author.Needs.{needs}
+use mathlib.Core.Path.{sym, _∙_, ap}
+use native.Mathlib.Omega.{arith}
+use Rattle.drawing.specs.Object.{curve}
+use Rattle.drawing.specs.Refusals.{checkVerdict}
+use Rattle.exports.specs.Signed.{signed}
+use Rattle.exports.proofs.Small.{small-read}
+use Rattle.exports.proofs.Calls.{wrong-length, right-length}
+use Rattle.exports.proofs.curves.gidzkhalu_check_curve.Statement.{statement}
+use Rattle.exports.proofs.curves.gidzkhalu_check_curve.Tie as tie
+
+refused-requires : tie.Need-refused-requires
+refused-requires c κs = search needs
+
+returns : tie.Need-returns
+returns c =
+    let s = c .before .before .before in
+    small-read (c .refused .ensures .0) (c .refused .ensures .1) .0 ∙
+    ap (λ v. signed v 0) (sym (wrong-length 12 (s .args .points .now) (checkVerdict (s .args .side) (curve (s .args .steps) (s .args .points .now) 0)) (c .before .if1 .taken)))
+
+curve-of-requires : tie.Need-curve-of-requires
+curve-of-requires c κs = search needs
+
+check-curve-requires : tie.Need-check-curve-requires
+check-curve-requires c κs = search needs
+
+of-verdict-requires : tie.Need-of-verdict-requires
+of-verdict-requires c κs = search needs
+
+returns-2 : tie.Need-returns-2
+returns-2 c =
+    let k = c .before in
+    let e = k .before .before in
+    let s = e .before .before in
+    let same = ap (checkVerdict (s .args .side)) (k .before .curve-of .ensures) in
+    small-read (c .of-verdict .ensures .0) (c .of-verdict .ensures .1) .0 ∙ ap (λ v. signed v 0) (k .check-curve .ensures ∙ same) ∙
+    ap (λ v. signed v 0) (sym (right-length 12 (s .args .points .now) (checkVerdict (s .args .side) (curve (s .args .steps) (s .args .points .now) 0)) (omega (arith, e .if1 .left))))
+
+pub gidzkhalu-check-curve-spec : {M : Type 1} → statement M
+gidzkhalu-check-curve-spec =
+    tie.close
+    (tie.spec
+    refused-requires
+    returns
+    curve-of-requires
+    check-curve-requires
+    of-verdict-requires
+    returns-2)

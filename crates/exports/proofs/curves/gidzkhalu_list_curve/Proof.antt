@@ -1,0 +1,47 @@
+-- `gidzkhalu_list_curve` meets its contract: the record's length is judged, then the call.
+use borrow.Author.Needs.{needs}
+use native.Mathlib.Omega.{arith}
+use Rattle.exports.proofs.Small.{small-read}
+use Rattle.exports.proofs.Calls.{wrong-record, right-record}
+use Rattle.exports.proofs.curves.gidzkhalu_list_curve.Statement.{statement}
+use Rattle.exports.proofs.curves.gidzkhalu_list_curve.Tie as tie
+
+refused-requires : tie.Need-refused-requires
+refused-requires c κs = search needs
+
+returns : tie.Need-returns
+returns c =
+    wrong-record 12 _ _ _ _ _ (c .before .if1 .taken) (small-read (c .refused .ensures .0) (c .refused .ensures .1) .0)
+
+curve-of-requires : tie.Need-curve-of-requires
+curve-of-requires c κs = search needs
+
+list-curve-requires : tie.Need-list-curve-requires
+list-curve-requires c κs = search needs
+
+of-answer-requires : tie.Need-of-answer-requires
+of-answer-requires c κs = search needs
+
+same-length : tie.Need-same-length
+same-length c = search needs
+
+returns-2 : tie.Need-returns-2
+returns-2 c =
+    let k = c .before .before .before in
+    let m = k .before .before in
+    let e = m .before in
+    let d = rw (m .curve-of .ensures) at (k .list-curve .ensures) in
+    right-record 12 _ _ _ _ _ (k .list-curve .result) (omega (arith, e .if1 .left)) (d .answer) (d .leaves)
+    (small-read (c .of-answer .ensures .0) (c .of-answer .ensures .1) .0)
+
+pub gidzkhalu-list-curve-spec : {M : Type 1} → statement M
+gidzkhalu-list-curve-spec =
+    tie.close
+    (tie.spec
+    refused-requires
+    returns
+    curve-of-requires
+    list-curve-requires
+    of-answer-requires
+    same-length
+    returns-2)

@@ -1,0 +1,28 @@
+-- `gidzkhalu_refusal_line` meets its contract: the call, with its number signed.
+use borrow.Author.Needs.{needs}
+use native.Mathlib.Omega.{arith}
+use Rattle.sheet.proofs.Printed.{length-refusalLine}
+use Rattle.exports.proofs.Small.{small-read}
+use Rattle.exports.proofs.Text.{small-written, written-signed}
+use Rattle.exports.proofs.listings.gidzkhalu_refusal_line.Statement.{statement}
+use Rattle.exports.proofs.listings.gidzkhalu_refusal_line.Tie as tie
+
+refusal-line-requires : tie.Need-refusal-line-requires
+refusal-line-requires c κs = search needs
+
+of-written-requires : tie.Need-of-written-requires
+of-written-requires c κs =
+    let w = c .before .before .refusal-line in
+    let s = c .before .before .before .before .before in
+    small-written _ _ (w .result) (w .ensures .answer) (λ _. omega (arith, length-refusalLine (s .args .number) (s .args .line)))
+
+same-length : tie.Need-same-length
+same-length c = search needs
+
+returns : tie.Need-returns
+returns c =
+    written-signed (c .before .before .before .refusal-line .ensures) (small-read (c .of-written .ensures .0) (c .of-written .ensures .1) .0)
+
+pub gidzkhalu-refusal-line-spec : {M : Type 1} → statement M
+gidzkhalu-refusal-line-spec =
+    tie.close (tie.spec refusal-line-requires of-written-requires same-length returns)

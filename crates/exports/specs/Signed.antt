@@ -1,0 +1,24 @@
+-- What a C caller is answered: one signed number, a count or minus the refusal's number.
+use mathlib.Core.Bool.{not}
+use mathlib.Core.List.{List, [], _∷_}
+use Prim.Native.Nat.{ℕ}
+use lib.Dec.{eqb}
+use lib.IntN.{ℤ, pos, _-ℤ_}
+use lib.ListN.{length}
+use Rattle.decide.specs.Refusal.{Verdict, _when_, accepted, refused, firstThat, orElse}
+
+-- Minus the number.
+abbrev pub minus : (number : ℕ) → ℤ
+minus k = pos 0 -ℤ pos k
+
+abbrev pub signed : Verdict → (count : ℕ) → ℤ
+signed accepted n = pos n
+signed (refused k) n = minus k
+
+-- 51, before all else: a record of another length.
+abbrev pub ofLength : (size : ℕ) (bytes : List ℕ) → Verdict → Verdict
+ofLength size r v = orElse (firstThat (51 when not (eqb (length r) size) ∷ [])) v
+
+-- 52, before all but 51 and 53: an out-buffer of another length.
+abbrev pub intoLength : (size : ℕ) (out : List ℕ) → Verdict → Verdict
+intoLength size out v = orElse (firstThat (52 when not (eqb (length out) size) ∷ [])) v

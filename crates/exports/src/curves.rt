@@ -1,0 +1,61 @@
+// Curves.
+ghost use mathlib.Core.Path.{_≡_};
+ghost use lib.ListN.{length};
+ghost use Rattle.drawing.specs.Object.{curve};
+ghost use Rattle.curve.specs.Curve.{curveOf};
+ghost use Rattle.exports.specs.Records.{ChecksBytes, ListsBytes, DrawsBytes};
+use crate::signed::copy;
+use crate::signed::of_answer;
+use crate::signed::of_verdict;
+use crate::signed::refused;
+use curve::Curve;
+
+// The record of twelve bytes.
+fn curve_of(points: &[u8], steps: u32, mark: u8) -> Curve
+    requires { ⌜ length (now points) ≡ 12 ⌝ }
+    ensures { λ r. ⌜ curveOf r ≡ curve steps (now (points .entry)) mark ⌝ }
+{
+    let mut twelve = [0u8; 12];
+    copy(points, &mut twelve);
+    Curve {
+        points: twelve,
+        steps,
+        mark,
+    }
+}
+
+#[no_mangle]
+pub extern "C" fn gidzkhalu_check_curve(side: u32, points: &[u8], steps: u32) -> i64
+    ensures { λ r. ⌜ ChecksBytes 12 side (curve steps (now (points .entry)) 0) r ⌝ }
+{
+    if points.len() != 12 {
+        return refused(51);
+    }
+    of_verdict(curve::check_curve(side, curve_of(points, steps, 0)))
+}
+
+#[no_mangle]
+pub extern "C" fn gidzkhalu_list_curve(side: u32, points: &[u8], steps: u32, list: &mut [u8]) -> i64
+    ensures { λ r. ⌜ ListsBytes 12 side (curve steps (now (points .entry)) 0) (now (list .entry)) (now (list .exit)) r ⌝ }
+{
+    if points.len() != 12 {
+        return refused(51);
+    }
+    of_answer(curve::list_curve(side, curve_of(points, steps, 0), list))
+}
+
+#[no_mangle]
+pub extern "C" fn gidzkhalu_draw_curve(
+    side: u32,
+    points: &[u8],
+    steps: u32,
+    mark: u8,
+    grid: &mut [u8],
+) -> i64
+    ensures { λ r. ⌜ DrawsBytes 12 side (curve steps (now (points .entry)) mark) (now (grid .entry)) (now (grid .exit)) r ⌝ }
+{
+    if points.len() != 12 {
+        return refused(51);
+    }
+    of_answer(curve::draw_curve(side, curve_of(points, steps, mark), grid))
+}

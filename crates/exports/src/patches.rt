@@ -1,0 +1,53 @@
+// Patches.
+ghost use mathlib.Core.Path.{_≡_};
+ghost use lib.ListN.{length};
+ghost use Rattle.drawing.specs.Object.{patch};
+ghost use Rattle.patch.specs.Patch.{patchOf};
+ghost use Rattle.exports.specs.Records.{ChecksBytes, DrawsBytes};
+use crate::signed::copy;
+use crate::signed::of_answer;
+use crate::signed::of_verdict;
+use crate::signed::refused;
+use patch::Patch;
+
+// The record of forty-eight bytes.
+fn patch_of(points: &[u8], n: u32, m: u32, mark: u8) -> Patch
+    requires { ⌜ length (now points) ≡ 48 ⌝ }
+    ensures { λ r. ⌜ patchOf r ≡ patch n m (now (points .entry)) mark ⌝ }
+{
+    let mut forty_eight = [0u8; 48];
+    copy(points, &mut forty_eight);
+    Patch {
+        points: forty_eight,
+        n,
+        m,
+        mark,
+    }
+}
+
+#[no_mangle]
+pub extern "C" fn gidzkhalu_check_patch(side: u32, points: &[u8], n: u32, m: u32) -> i64
+    ensures { λ r. ⌜ ChecksBytes 48 side (patch n m (now (points .entry)) 0) r ⌝ }
+{
+    if points.len() != 48 {
+        return refused(51);
+    }
+    of_verdict(patch::check_patch(side, patch_of(points, n, m, 0)))
+}
+
+#[no_mangle]
+pub extern "C" fn gidzkhalu_draw_patch(
+    side: u32,
+    points: &[u8],
+    n: u32,
+    m: u32,
+    mark: u8,
+    grid: &mut [u8],
+) -> i64
+    ensures { λ r. ⌜ DrawsBytes 48 side (patch n m (now (points .entry)) mark) (now (grid .entry)) (now (grid .exit)) r ⌝ }
+{
+    if points.len() != 48 {
+        return refused(51);
+    }
+    of_answer(patch::draw_patch(side, patch_of(points, n, m, mark), grid))
+}

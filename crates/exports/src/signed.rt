@@ -1,0 +1,57 @@
+// Signed answers.
+ghost use mathlib.Core.Path.{_≡_};
+ghost use Prim.Native.Nat.{_^_};
+ghost use lib.IntN.{pos};
+ghost use lib.ListN.{length};
+ghost use Rattle.integers.specs.Magnitude.{Within};
+ghost use Rattle.scan.specs.Answer.{verdictOf};
+ghost use Rattle.exports.specs.Signed.{minus, signed};
+ghost use Rattle.exports.specs.Answer.{numberOf};
+use scan::answer::Answer;
+use scan::answer::Verdict;
+
+// A count.
+pub(crate) fn accepted(count: u32) -> i64
+    ensures { λ r. ⌜ (r ≡ pos count) × Within (2 ^ 32) r ⌝ }
+{
+    scan::number::count(count)
+}
+
+// Minus a refusal's number.
+pub(crate) fn refused(number: u32) -> i64
+    ensures { λ r. ⌜ (r ≡ minus number) × Within (2 ^ 32) r ⌝ }
+{
+    0 - scan::number::count(number)
+}
+
+// Of a check: 0 where it finds nothing.
+pub(crate) fn of_verdict(verdict: Verdict) -> i64
+    ensures { λ r. ⌜ (r ≡ signed (verdictOf verdict) 0) × Within (2 ^ 32) r ⌝ }
+{
+    match verdict {
+        Verdict::Accepted => 0,
+        Verdict::Refused(number) => refused(number),
+    }
+}
+
+// Of a drawing or a listing: the number of samples.
+pub(crate) fn of_answer(answer: Answer) -> i64
+    ensures { λ r. ⌜ (r ≡ numberOf answer) × Within (2 ^ 32) r ⌝ }
+{
+    match answer {
+        Answer::Samples(count) => accepted(count),
+        Answer::Refused(number) => refused(number),
+    }
+}
+
+// Copies bytes.
+pub(crate) fn copy(from: &[u8], to: &mut [u8])
+    requires { ⌜ length (now from) ≡ length (now to) ⌝ }
+    ensures { λ _. ⌜ now (to .exit) ≡ now (from .entry) ⌝ }
+{
+    let mut i = 0;
+    while i < to.len() {
+        to[i] = from[i];
+        i += 1;
+    }
+}
