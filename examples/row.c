@@ -1,0 +1,31 @@
+/* Draws K12's patch, x of g(i, j) = i + j with n = m = 4, and prints the cells of its row 2. y and z are chosen so that
+   row 2 has a line of the cube of its own: y of g(i, j) = j, z = 2 for j = 2 and 0 otherwise; its line is y = 1, z = 1. */
+#include "gidzkhalu.h"
+#include <stdio.h>
+
+int main(void) {
+    enum { SIDE = 8 };
+    static uint8_t grid[SIDE * SIDE * SIDE];
+    uint8_t points[48];
+    for (int i = 0; i < 4; i++) {
+        for (int j = 0; j < 4; j++) {
+            uint8_t *p = points + 3 * (4 * i + j);
+            p[0] = (uint8_t)(i + j);
+            p[1] = (uint8_t)j;
+            p[2] = j == 2 ? 2 : 0;
+        }
+    }
+    int64_t answer = gidzkhalu_draw_patch(SIDE, points, sizeof points, 4, 4, 7, grid, sizeof grid);
+    if (answer < 0) {
+        printf("refused: %d\n", (int)-answer);
+        return 1;
+    }
+    printf("%d samples; row 2 marks x =", (int)answer);
+    for (int x = 0; x < SIDE; x++) {
+        if (grid[x + SIDE * 1 + SIDE * SIDE * 1] != 0) {
+            printf(" %d", x);
+        }
+    }
+    printf("\n");
+    return 0;
+}
