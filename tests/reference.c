@@ -1,0 +1,576 @@
+/* The reference of reference.h. */
+#include "reference.h"
+
+#include <string.h>
+
+/* The order of refusals */
+
+void order_add(struct order *order, int number, int applies) {
+    order->step[order->length].number = number;
+    order->step[order->length].applies = applies != 0;
+    order->length++;
+}
+
+int order_first(const struct order *order) {
+    for (int k = 0; k < order->length; k++)
+        if (order->step[k].applies)
+            return order->step[k].number;
+    return 0;
+}
+
+static int side_outside(uint32_t side) { return side < 2 || 64 < side; }
+
+/* S x S x S of any 32-bit side fits in 96 bits. */
+static wide volume(uint32_t side) { return (wide)side * side * side; }
+
+static size_t place(uint32_t side, int32_t x, int32_t y, int32_t z) {
+    return (size_t)x + (size_t)side * (size_t)y + (size_t)side * side * (size_t)z;
+}
+
+/* Exact samples */
+
+static void weights_at(uint32_t n, uint32_t i, wide weight[4]) {
+    wide i1 = i, r = (wide)n - i;
+    weight[0] = r * r * r;
+    weight[1] = 3 * i1 * r * r;
+    weight[2] = 3 * i1 * i1 * r;
+    weight[3] = i1 * i1 * i1;
+}
+
+static void evaluate(const uint8_t *points, int count, const wide *weight, struct samples *s, size_t at) {
+    for (int axis = 0; axis < 3; axis++) {
+        wide sum = 0;
+        for (int k = 0; k < count; k++)
+            sum += weight[k] * points[3 * k + axis];
+        s->value[axis][at] = sum;
+    }
+}
+
+static void curve_values(const struct object_call *c, struct samples *s) {
+    wide weight[4];
+    for (uint32_t i = 0; i <= c->n; i++) {
+        weights_at(c->n, i, weight);
+        evaluate(c->points, 4, weight, s, i);
+    }
+}
+
+static void patch_values(const struct object_call *c, struct samples *s) {
+    wide along_t[4], along_u[4], weight[16];
+    for (uint32_t j = 0; j <= c->m; j++) {
+        weights_at(c->m, j, along_u);
+        for (uint32_t i = 0; i <= c->n; i++) {
+            weights_at(c->n, i, along_t);
+            for (int k = 0; k < 16; k++)
+                weight[k] = along_t[k / 4] * along_u[k % 4];
+            evaluate(c->points, 16, weight, s, s->along * j + i);
+        }
+    }
+}
+
+void exact_values(const struct object_call *c, struct samples *s) {
+    s->along = (size_t)c->n + 1;
+    s->rows = c->patch ? (size_t)c->m + 1 : 1;
+    s->scale = (wide)c->n * c->n * c->n;
+    if (c->patch) {
+        s->scale *= (wide)c->m * c->m * c->m;
+        patch_values(c, s);
+    } else {
+        curve_values(c, s);
+    }
+}
+
+static wide distance(wide a, wide b) { return a < b ? b - a : a - b; }
+
+wide longest_step(const struct samples *s) {
+    wide longest = 0;
+    for (int axis = 0; axis < 3; axis++)
+        for (size_t at = 0; at < s->along * s->rows; at++) {
+            const wide *v = s->value[axis];
+            if ((at + 1) % s->along != 0 && distance(v[at], v[at + 1]) > longest)
+                longest = distance(v[at], v[at + 1]);
+            if (at + s->along < s->along * s->rows && distance(v[at], v[at + s->along]) > longest)
+                longest = distance(v[at], v[at + s->along]);
+        }
+    return longest;
+}
+
+/* The walk */
+
+static int within_half(wide value, wide scale, int32_t coordinate) {
+    return 2 * distance(value, coordinate * scale) <= scale;
+}
+
+static int32_t moved(int32_t coordinate, wide value, wide scale) {
+    if (within_half(value, scale, coordinate))
+        return coordinate;
+    return value > coordinate * scale ? coordinate + 1 : coordinate - 1;
+}
+
+static void walk(const struct object_call *c, struct samples *s) {
+    for (int axis = 0; axis < 3; axis++) {
+        const wide *v = s->value[axis];
+        int32_t *cell = s->cell[axis];
+        cell[0] = c->points[axis];
+        for (size_t j = 1; j < s->rows; j++)
+            cell[s->along * j] = moved(cell[s->along * (j - 1)], v[s->along * j], s->scale);
+        for (size_t j = 0; j < s->rows; j++)
+            for (size_t i = 1; i < s->along; i++) {
+                size_t at = s->along * j + i;
+                cell[at] = moved(cell[at - 1], v[at], s->scale);
+            }
+    }
+}
+
+void count_ties(const struct samples *s, uint64_t *above, uint64_t *below) {
+    for (int axis = 0; axis < 3; axis++)
+        for (size_t at = 0; at < s->along * s->rows; at++) {
+            wide over = 2 * (s->value[axis][at] - s->cell[axis][at] * s->scale);
+            *above += over == s->scale;
+            *below += over == -s->scale;
+        }
+}
+
+/* Checking, listing and drawing */
+
+static int count_outside(const struct object_call *c) {
+    uint32_t limit = c->patch ? 256 : 512;
+    return c->n < 1 || limit < c->n || (c->patch && (c->m < 1 || limit < c->m));
+}
+
+static int coordinate_outside(const struct object_call *c) {
+    for (size_t k = 0; k < c->points_len; k++)
+        if (c->points[k] >= c->side)
+            return 1;
+    return 0;
+}
+
+/* Behind another number 15 is only tried for objects of few samples. */
+static int few_samples(const struct object_call *c) {
+    return 1 <= c->n && c->n < 800 && (!c->patch || (1 <= c->m && c->m < 800 && (c->n + 1) * (c->m + 1) <= 800));
+}
+
+static int steps_too_long(const struct object_call *c, const struct order *order, struct samples *s) {
+    if (order_first(order) != 0 && !few_samples(c))
+        return 0;
+    exact_values(c, s);
+    return longest_step(s) > s->scale;
+}
+
+static void object_order(const struct object_call *c, struct order *order, struct samples *s) {
+    int wrong_record = c->points_len != (c->patch ? 48 : 12);
+    order_add(order, 51, wrong_record);
+    order_add(order, 11, side_outside(c->side));
+    if (c->service == DRAW) {
+        order_add(order, 21, (wide)c->lent_len != volume(c->side));
+        order_add(order, 12, c->mark == 0);
+    }
+    order_add(order, 13, count_outside(c));
+    if (c->service == LIST)
+        order_add(order, 22, (wide)c->lent_len < 3 * ((wide)c->n + 1));
+    order_add(order, 14, !wrong_record && coordinate_outside(c));
+    order_add(order, 15, !wrong_record && steps_too_long(c, order, s));
+}
+
+static void write_cells(const struct object_call *c, const struct samples *s) {
+    for (size_t at = 0; at < s->along * s->rows; at++) {
+        int32_t x = s->cell[0][at], y = s->cell[1][at], z = s->cell[2][at];
+        if (c->service == DRAW) {
+            c->lent[place(c->side, x, y, z)] = c->mark;
+        } else {
+            c->lent[3 * at] = (uint8_t)x;
+            c->lent[3 * at + 1] = (uint8_t)y;
+            c->lent[3 * at + 2] = (uint8_t)z;
+        }
+    }
+}
+
+int64_t reference_object(const struct object_call *c, struct order *order, struct samples *s) {
+    object_order(c, order, s);
+    if (order_first(order) != 0)
+        return -order_first(order);
+    walk(c, s);
+    if (c->service == CHECK)
+        return 0;
+    write_cells(c, s);
+    return (int64_t)(s->along * s->rows);
+}
+
+/* Demand 3 */
+
+static int sample_holds(const struct samples *s, size_t at, uint32_t side, uint8_t mark, const uint8_t *grid) {
+    for (int axis = 0; axis < 3; axis++) {
+        int32_t cell = s->cell[axis][at];
+        if (cell < 0 || (int32_t)side <= cell || !within_half(s->value[axis][at], s->scale, cell))
+            return 0;
+        if ((at + 1) % s->along != 0 && distance(cell, s->cell[axis][at + 1]) > 1)
+            return 0;
+    }
+    return grid[place(side, s->cell[0][at], s->cell[1][at], s->cell[2][at])] == mark;
+}
+
+int samples_hold(const struct samples *s, uint32_t side, uint8_t mark, const uint8_t *grid) {
+    for (size_t at = 0; at < s->along * s->rows; at++)
+        if (!sample_holds(s, at, side, mark, grid))
+            return 0;
+    return 1;
+}
+
+/* The one or two coordinates within half a cell of a value; answers their number. */
+static int near_coordinates(wide value, wide scale, uint32_t side, int32_t near[2]) {
+    int found = 0;
+    int32_t below = (int32_t)(value / scale);
+    for (int32_t c = below; c <= below + 1; c++)
+        if (c < (int32_t)side && within_half(value, scale, c))
+            near[found++] = c;
+    return found;
+}
+
+void explain(const struct samples *s, uint32_t side, uint8_t mark, const uint8_t *grid, uint8_t *explained) {
+    for (size_t at = 0; at < s->along * s->rows; at++) {
+        int32_t near[3][2];
+        int found[3];
+        for (int axis = 0; axis < 3; axis++)
+            found[axis] = near_coordinates(s->value[axis][at], s->scale, side, near[axis]);
+        for (int a = 0; a < found[0]; a++)
+            for (int b = 0; b < found[1]; b++)
+                for (int c = 0; c < found[2]; c++) {
+                    size_t p = place(side, near[0][a], near[1][b], near[2][c]);
+                    if (grid[p] == mark)
+                        explained[p] = 1;
+                }
+    }
+}
+
+/* Swatches: a pattern's number is its significand times 2 to the power of its exponent - 150 */
+
+static const uint32_t ONE = 0x3F800000, INFINITE = 0x7F800000, SIGN = 0x80000000;
+
+static uint32_t exponent_of(uint32_t bits) {
+    uint32_t field = bits >> 23 & 0xFF;
+    return field == 0 ? 1 : field;
+}
+
+static uint32_t significand_of(uint32_t bits) {
+    uint32_t fraction = bits & 0x7FFFFF;
+    return (bits >> 23 & 0xFF) == 0 ? fraction : fraction + 0x800000;
+}
+
+static int infinite_or_no_number(uint32_t bits) { return (bits & ~SIGN) >= INFINITE; }
+
+/* An infinity is outside as well, minus zero is not. */
+static int outside_unit(uint32_t bits) {
+    uint32_t magnitude = bits & ~SIGN;
+    if (magnitude > INFINITE)
+        return 0;
+    return (bits & SIGN) != 0 ? magnitude != 0 : magnitude > ONE;
+}
+
+/* A grey stands for three equal channels; a kind that does not exist is taken as three channels. */
+static uint32_t channel_of(const struct swatch *swatch, int k) { return swatch->channel[swatch->kind == 1 ? 0 : k]; }
+
+static void channels_order(const struct swatch *swatch, struct order *order) {
+    for (int k = 0; k < 3; k++) {
+        order_add(order, 31, infinite_or_no_number(channel_of(swatch, k)));
+        order_add(order, 32, outside_unit(channel_of(swatch, k)));
+    }
+}
+
+/* 2 v (S-1) = *doubled / 2^*shift. A shift above 100 only says that the quotient is below 1: *doubled is below 2^31. */
+static void doubled_product(uint32_t side, uint32_t bits, wide *doubled, uint32_t *shift) {
+    *doubled = (wide)significand_of(bits) * 2 * (side - 1);
+    *shift = 150 - exponent_of(bits);
+    if (*shift > 100)
+        *shift = 100;
+}
+
+/* The c with 2c - 1 < 2 v (S-1) <= 2c + 1: the least c that the upper bound admits. */
+static uint8_t coordinate_of(uint32_t side, uint32_t bits) {
+    wide doubled, c = 0;
+    uint32_t shift;
+    doubled_product(side, bits, &doubled, &shift);
+    while (doubled > (2 * c + 1) << shift)
+        c++;
+    return (uint8_t)c;
+}
+
+int channels_on_half(uint32_t side, const struct swatch *swatch) {
+    int found = 0;
+    for (int k = 0; k < 3; k++) {
+        uint32_t bits = channel_of(swatch, k), shift;
+        wide doubled;
+        doubled_product(side, bits, &doubled, &shift);
+        found += doubled == ((wide)2 * coordinate_of(side, bits) + 1) << shift;
+    }
+    return found;
+}
+
+int64_t reference_to_cell(uint32_t side, const struct swatch *swatch, uint8_t *cell, size_t cell_len,
+                          struct order *order) {
+    order_add(order, 53, swatch->kind > 1);
+    order_add(order, 52, cell_len != 3);
+    order_add(order, 11, side_outside(side));
+    channels_order(swatch, order);
+    if (order_first(order) != 0)
+        return -order_first(order);
+    for (int k = 0; k < 3; k++)
+        cell[k] = coordinate_of(side, channel_of(swatch, k));
+    return 0;
+}
+
+/* A number not below 0 in units of 2^-150, low word first; 2 is 2^151. */
+struct units {
+    uint64_t word[3];
+};
+
+static struct units units_of(uint32_t bits) {
+    struct units u = {{0, 0, 0}};
+    uint32_t word = exponent_of(bits) / 64, shift = exponent_of(bits) % 64;
+    wide placed = (wide)significand_of(bits) << shift;
+    u.word[word] = (uint64_t)placed;
+    if (word < 2)
+        u.word[word + 1] = (uint64_t)(placed >> 64);
+    return u;
+}
+
+static struct units sum_of(struct units a, struct units b) {
+    wide carry = 0;
+    for (int k = 0; k < 3; k++) {
+        carry += (wide)a.word[k] + b.word[k];
+        a.word[k] = (uint64_t)carry;
+        carry >>= 64;
+    }
+    return a;
+}
+
+static struct units half_of(struct units a) {
+    for (int k = 0; k < 3; k++)
+        a.word[k] = a.word[k] >> 1 | (k < 2 ? a.word[k + 1] << 63 : 0);
+    return a;
+}
+
+static int bit(struct units u, unsigned k) { return (int)(u.word[k / 64] >> k % 64 & 1); }
+
+static int any_below(struct units u, unsigned k) {
+    int any = 0;
+    for (unsigned w = 0; w < 3; w++)
+        if (64 * w < k)
+            any |= (64 * w + 64 <= k ? u.word[w] : u.word[w] << (64 * w + 64 - k)) != 0;
+    return any;
+}
+
+/* The pattern nearest to the number, a tie going to the even one: bits low to low + 23 are kept, the top one of the
+   number among them; below 2^-126 low is 1, and the pattern is the significand alone. */
+static uint32_t pattern_of(struct units u) {
+    unsigned low = 191 - 23;
+    uint32_t kept = 0;
+    int half, rest;
+    while (low > 1 && !bit(u, low + 23))
+        low--;
+    half = bit(u, low - 1);
+    rest = any_below(u, low - 1);
+    for (unsigned k = 0; k < 24; k++)
+        kept |= (uint32_t)bit(u, low + k) << k;
+    if (half && (rest || kept % 2 == 1))
+        kept++;
+    return ((low - 1) << 23) + kept;
+}
+
+static uint32_t half_way_channel(uint32_t a, uint32_t b) {
+    if (a == SIGN && b == SIGN)
+        return SIGN;
+    return pattern_of(half_of(units_of(pattern_of(sum_of(units_of(a), units_of(b))))));
+}
+
+int64_t reference_half_way(const struct swatch *first, const struct swatch *second, uint8_t *channels,
+                           size_t channels_len, struct order *order) {
+    order_add(order, 53, first->kind > 1 || second->kind > 1);
+    order_add(order, 52, channels_len != 12);
+    channels_order(first, order);
+    channels_order(second, order);
+    if (order_first(order) != 0)
+        return -order_first(order);
+    for (int k = 0; k < 12; k++)
+        channels[k] = (uint8_t)(half_way_channel(channel_of(first, k / 4), channel_of(second, k / 4)) >> 8 * (k % 4));
+    return 0;
+}
+
+/* The stroke sheet */
+
+enum { BUFFER = 64000, CURVE_LINES = 200, FIELDS = 14 };
+
+/* A line: its bytes without the line feed, and whether it has one. */
+struct line {
+    const uint8_t *bytes;
+    size_t length;
+    int ended;
+};
+
+static struct line line_from(const uint8_t *input, size_t input_len, size_t at) {
+    struct line line = {input + at, 0, 0};
+    while (at + line.length < input_len && line.bytes[line.length] != 10)
+        line.length++;
+    line.ended = at + line.length < input_len;
+    return line;
+}
+
+/* A field's number, and whether the field is bad. A bad field of blanks and digits has its number, others `otherwise`.
+ */
+static uint32_t field_of(const struct line *line, size_t k, uint32_t otherwise, int *bad) {
+    const uint8_t *field = line->bytes + 5 * k;
+    size_t blanks = 0;
+    uint32_t number = 0;
+    while (blanks < 5 && field[blanks] == ' ')
+        blanks++;
+    *bad = blanks == 5 || (blanks < 4 && field[blanks] == '0');
+    for (size_t at = blanks; at < 5; at++) {
+        if (field[at] < '0' || '9' < field[at]) {
+            *bad = 1;
+            return otherwise;
+        }
+        number = 10 * number + (field[at] - '0');
+    }
+    return blanks < 5 ? number : otherwise;
+}
+
+/* Reads the wanted number of fields; those that the line lacks are `otherwise`. Answers whether a field is bad. */
+static int fields_of(const struct line *line, size_t wanted, uint32_t otherwise, uint32_t *number) {
+    int any_bad = 0;
+    for (size_t k = 0; k < wanted; k++) {
+        int bad = 0;
+        number[k] = 5 * k + 5 <= line->length ? field_of(line, k, otherwise, &bad) : otherwise;
+        any_bad |= bad;
+    }
+    return any_bad;
+}
+
+static int wrong_line(const struct line *line, size_t fields) { return line->length != 5 * fields || !line->ended; }
+
+static uint32_t side_line(const struct line *line, struct order *order) {
+    uint32_t side;
+    int bad = fields_of(line, 1, 2, &side);
+    order_add(order, 41, wrong_line(line, 1));
+    order_add(order, 42, bad);
+    order_add(order, 11, side_outside(side));
+    order_add(order, 43, 40 < side && side <= 64);
+    return side;
+}
+
+/* The refusals that look at a curve line's numbers; a coordinate above 255 is never below the side. */
+static void stroke_order(const uint32_t *number, uint32_t side, uint8_t *points, struct order *order) {
+    static struct samples samples;
+    struct object_call curve = {CHECK, 0, side, number[1], 0, 0, points, 12, NULL, 0};
+    int outside = 0, large = 0;
+    for (int k = 0; k < 12; k++) {
+        outside |= number[2 + k] >= side;
+        large |= number[2 + k] > 255;
+        points[k] = (uint8_t)number[2 + k];
+    }
+    order_add(order, 12, number[0] == 0 || number[0] > 255);
+    order_add(order, 13, count_outside(&curve));
+    order_add(order, 14, outside);
+    order_add(order, 15, !large && steps_too_long(&curve, order, &samples));
+}
+
+/* Judges line number `at` and draws it if no number applies. */
+static void curve_line(const struct line *line, uint32_t at, uint32_t side, uint8_t *cube, struct order *order) {
+    static struct samples samples;
+    uint32_t number[FIELDS];
+    uint8_t points[12];
+    struct order unused = {0};
+    int bad = fields_of(line, FIELDS, 1, number);
+    order_add(order, 44, at > CURVE_LINES + 1);
+    order_add(order, 41, wrong_line(line, FIELDS));
+    order_add(order, 42, bad);
+    stroke_order(number, side, points, order);
+    if (order_first(order) == 0) {
+        struct object_call curve = {DRAW, 0, side, number[1], 0, (uint8_t)number[0], points, 12, cube, 0};
+        curve.lent_len = (size_t)volume(side);
+        reference_object(&curve, &unused, &samples);
+    }
+}
+
+/* Draws the lines into the cube: the side, with the number of lines, or 0, with the number of the refused line. */
+static uint32_t sheet_lines(const uint8_t *input, size_t input_len, uint8_t *cube, uint32_t *at, struct order *order) {
+    struct line line = line_from(input, input_len, 0);
+    uint32_t side = side_line(&line, order);
+    size_t next = line.length + 1;
+    *at = 1;
+    if (order_first(order) != 0)
+        return 0;
+    memset(cube, 0, (size_t)volume(side));
+    for (; next < input_len; next += line.length + 1) {
+        ++*at;
+        order->length = 0;
+        line = line_from(input, input_len, next);
+        curve_line(&line, *at, side, cube, order);
+        if (order_first(order) != 0)
+            return 0;
+    }
+    return side;
+}
+
+int64_t reference_draw_sheet(const uint8_t *input, size_t input_len, uint8_t *buffer, size_t buffer_len,
+                             uint8_t *detail, size_t detail_len, struct order *order) {
+    static uint8_t cube[BUFFER];
+    struct order of_line = {0};
+    uint32_t at, side = sheet_lines(input, input_len, cube, &at, &of_line);
+    order_add(order, 52, detail_len != 1);
+    order_add(order, 21, buffer_len != BUFFER);
+    for (int k = 0; k < of_line.length; k++)
+        order_add(order, of_line.step[k].number, of_line.step[k].applies);
+    int refusal = order_first(order);
+    if (refusal == 52)
+        return -52;
+    if (refusal != 0) {
+        detail[0] = (uint8_t)(refusal == 21 ? 0 : at);
+        return -refusal;
+    }
+    memcpy(buffer, cube, (size_t)volume(side));
+    detail[0] = (uint8_t)side;
+    return (int64_t)at - 1;
+}
+
+/* The listing */
+
+/* A number in 5 columns, of a longer one its last five digits. */
+static void put_number(uint8_t *text, uint32_t number) {
+    for (int k = 4; k >= 0; k--) {
+        text[k] = k < 4 && number == 0 ? ' ' : (uint8_t)('0' + number % 10);
+        number /= 10;
+    }
+}
+
+int64_t reference_list_part(uint32_t side, const uint8_t *cube, size_t cube_len, size_t first, size_t count,
+                            uint8_t *text, size_t text_len, struct order *order) {
+    size_t bytes = 0;
+    order_add(order, 11, side_outside(side));
+    order_add(order, 21, (wide)cube_len != volume(side));
+    order_add(order, 22, (wide)text_len < 21 * ((wide)count + 1));
+    if (order_first(order) != 0)
+        return -order_first(order);
+    if (first == 0) {
+        memcpy(text, "    X    Y    Z MARK\n", 21);
+        bytes = 21;
+    }
+    for (size_t p = first; p < cube_len && p - first < count; p++)
+        if (cube[p] != 0) {
+            put_number(text + bytes, (uint32_t)p % side);
+            put_number(text + bytes + 5, (uint32_t)p / side % side);
+            put_number(text + bytes + 10, (uint32_t)p / (side * side));
+            put_number(text + bytes + 15, cube[p]);
+            text[bytes + 20] = 10;
+            bytes += 21;
+        }
+    return (int64_t)bytes;
+}
+
+int64_t reference_refusal_line(uint32_t number, uint32_t line, uint8_t *text, size_t text_len, struct order *order) {
+    order_add(order, 22, text_len < 18);
+    if (order_first(order) != 0)
+        return -22;
+    memcpy(text, "REFUSED", 7);
+    put_number(text + 7, number);
+    put_number(text + 12, line);
+    text[17] = 10;
+    return 18;
+}

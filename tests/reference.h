@@ -1,0 +1,88 @@
+/* An exact reference for the C interface, written from document 01 alone: every sample is summed from its Bernstein
+   weights in 128-bit integers, without differences and remainders, and every f32 is taken as its bit pattern. */
+#ifndef REFERENCE_H
+#define REFERENCE_H
+
+#include <stddef.h>
+#include <stdint.h>
+
+__extension__ typedef __int128 wide;
+
+/* The numbers of a call in the order in which they are tried, and which of them apply. */
+struct order {
+    int length;
+    struct {
+        int number, applies;
+    } step[16];
+};
+
+void order_add(struct order *order, int number, int applies);
+
+/* The first number that applies, or 0. */
+int order_first(const struct order *order);
+
+/* A call that checks, lists or draws a curve or a patch. */
+enum service { CHECK, LIST, DRAW };
+
+struct object_call {
+    enum service service;
+    int patch;
+    uint32_t side, n, m; /* a curve has no m */
+    uint8_t mark;
+    const uint8_t *points;
+    size_t points_len;
+    uint8_t *lent; /* the list or the grid */
+    size_t lent_len;
+};
+
+/* The exact values of an object, times scale, and the cells of the walk: row j's sample i is at (n + 1) j + i. */
+enum { SAMPLES = 257 * 257 };
+
+struct samples {
+    size_t along, rows; /* n + 1 and m + 1, or 1 row for a curve */
+    wide scale;
+    wide value[3][SAMPLES];
+    int32_t cell[3][SAMPLES];
+};
+
+/* The values alone; all points and counts of the call must be there. */
+void exact_values(const struct object_call *call, struct samples *samples);
+
+/* The largest distance of two neighbours on an axis, times scale. */
+wide longest_step(const struct samples *samples);
+
+/* How many samples lie half a cell above their cell on some axis, and how many half a cell below. */
+void count_ties(const struct samples *samples, uint64_t *above, uint64_t *below);
+
+/* An accepted call leaves the object's values and cells in samples. */
+int64_t reference_object(const struct object_call *call, struct order *order, struct samples *samples);
+
+/* Demand 3, second sentence: every sample's cell is within half a cell and holds the mark; followers differ by one. */
+int samples_hold(const struct samples *samples, uint32_t side, uint8_t mark, const uint8_t *grid);
+
+/* Demand 3, first sentence: sets explained at each place that holds the mark within half a cell of a sample. */
+void explain(const struct samples *samples, uint32_t side, uint8_t mark, const uint8_t *grid, uint8_t *explained);
+
+/* A swatch: kind 0 has red, green, blue, kind 1 a grey in channel[0]; the channels are bit patterns. */
+struct swatch {
+    uint32_t kind, channel[3];
+};
+
+int64_t reference_to_cell(uint32_t side, const struct swatch *swatch, uint8_t *cell, size_t cell_len,
+                          struct order *order);
+
+/* How many channels of an accepted swatch lie exactly half-way between two coordinates. */
+int channels_on_half(uint32_t side, const struct swatch *swatch);
+
+int64_t reference_half_way(const struct swatch *first, const struct swatch *second, uint8_t *channels,
+                           size_t channels_len, struct order *order);
+
+int64_t reference_draw_sheet(const uint8_t *input, size_t input_len, uint8_t *buffer, size_t buffer_len,
+                             uint8_t *detail, size_t detail_len, struct order *order);
+
+int64_t reference_list_part(uint32_t side, const uint8_t *cube, size_t cube_len, size_t first, size_t count,
+                            uint8_t *text, size_t text_len, struct order *order);
+
+int64_t reference_refusal_line(uint32_t number, uint32_t line, uint8_t *text, size_t text_len, struct order *order);
+
+#endif
