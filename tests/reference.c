@@ -121,12 +121,14 @@ static void walk(const struct object_call *c, struct samples *s) {
     }
 }
 
-void count_ties(const struct samples *s, uint64_t *above, uint64_t *below) {
+void count_ties(const struct samples *s, uint64_t *above, uint64_t *below, uint64_t *beside) {
     for (int axis = 0; axis < 3; axis++)
         for (size_t at = 0; at < s->along * s->rows; at++) {
             wide over = 2 * (s->value[axis][at] - s->cell[axis][at] * s->scale);
+            wide from_half = s->scale - distance(over, 0);
             *above += over == s->scale;
             *below += over == -s->scale;
+            *beside += s->scale > 8 && (from_half == 1 || from_half == 2);
         }
 }
 

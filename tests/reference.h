@@ -51,8 +51,9 @@ void exact_values(const struct object_call *call, struct samples *samples);
 /* The largest distance of two neighbours on an axis, times scale. */
 wide longest_step(const struct samples *samples);
 
-/* How many samples lie half a cell above their cell on some axis, and how many half a cell below. */
-void count_ties(const struct samples *samples, uint64_t *above, uint64_t *below);
+/* Adds the numbers of samples that lie half a cell above their cell on some axis, half a cell below, and so near to a
+   half that no value of their scale, above 8, lies between. */
+void count_ties(const struct samples *samples, uint64_t *above, uint64_t *below, uint64_t *beside);
 
 /* An accepted call leaves the object's values and cells in samples. */
 int64_t reference_object(const struct object_call *call, struct order *order, struct samples *samples);

@@ -1,0 +1,54 @@
+/* Seeded random inputs for the differential test. A case depends on its seed, kind and number alone. */
+#ifndef CASES_H
+#define CASES_H
+
+#include "reference.h"
+
+#include <stddef.h>
+#include <stdint.h>
+
+void start_run(uint64_t seed);
+void start_case(uint64_t kind, uint64_t number);
+
+/* A number from 0 to n - 1. */
+uint32_t below(uint32_t n);
+int one_in(uint32_t n);
+uint32_t random_word(void);
+void random_bytes(uint8_t *to, size_t len);
+
+enum fault {
+    BAD_RECORD = 1,
+    BAD_SIDE = 2,
+    BAD_LENGTH = 4,
+    BAD_MARK = 8,
+    BAD_COUNT = 16,
+    BAD_COORDINATE = 32,
+    LONG_STEP = 64,
+    ALL_FAULTS = 127
+};
+
+/* None, one or two of the faults. */
+unsigned random_faults(unsigned possible);
+
+uint32_t random_side(void);
+uint32_t bad_side(void);
+
+/* Fills in all of a call but its service, patch, side and lent buffer; points is room for 64 bytes. The side is a good
+   one, and changed only by BAD_SIDE. */
+void random_object(struct object_call *call, uint8_t *points, int large, unsigned faults);
+
+void random_swatch(struct swatch *swatch, uint32_t side);
+uint32_t bad_kind(void);
+
+/* Some channels next to those of another swatch. */
+void random_second(struct swatch *second, const struct swatch *first);
+
+enum { SHEET_ROOM = 16000 };
+
+/* Writes a sheet, often with one or two faults; answers its length. */
+size_t random_sheet(uint8_t *text, int large);
+
+/* The bytes of a cube: any, none, few or many marks. */
+void random_cube(uint8_t *cube, size_t len);
+
+#endif
