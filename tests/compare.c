@@ -1,0 +1,126 @@
+/* The buffers, counts and failures of compare.h. */
+#include "compare.h"
+#include "cases.h"
+
+#include <inttypes.h>
+#include <stdio.h>
+#include <stdlib.h>
+#include <string.h>
+
+enum { GUARD = 64 };
+
+static uint8_t *renewed(uint8_t *inner, size_t len) {
+    uint8_t *whole = realloc(inner == NULL ? NULL : inner - GUARD, len + 2 * GUARD);
+    if (whole == NULL) {
+        fprintf(stderr, "no memory\n");
+        exit(2);
+    }
+    return whole + GUARD;
+}
+
+void lend(struct lent *l, size_t len) {
+    if (l->got == NULL || l->room < len) {
+        l->got = renewed(l->got, len);
+        l->want = renewed(l->want, len);
+        l->room = len;
+    }
+    l->len = len;
+    random_bytes(l->want - GUARD, len + 2 * GUARD);
+    memcpy(l->got - GUARD, l->want - GUARD, len + 2 * GUARD);
+}
+
+void lend_bytes(struct lent *l, const uint8_t *bytes, size_t len) {
+    lend(l, len);
+    memcpy(l->want, bytes, len);
+    memcpy(l->got, bytes, len);
+}
+
+void lend_cube(struct lent *l, size_t len) {
+    lend(l, len);
+    random_cube(l->want, len);
+    memcpy(l->got, l->want, len);
+}
+
+int same(const struct lent *l) { return memcmp(l->got - GUARD, l->want - GUARD, l->len + 2 * GUARD) == 0; }
+
+/* Counts */
+
+const int NUMBER[NUMBERS] = {0, 11, 12, 13, 14, 15, 21, 22, 31, 32, 41, 42, 43, 44, 51, 52, 53};
+
+int index_of(int number) {
+    for (int k = 0; k < NUMBERS; k++)
+        if (NUMBER[k] == number)
+            return k;
+    return 0;
+}
+
+void count_order(struct counts *c, const struct order *order) {
+    int answer = 0;
+    for (int k = 0; k < order->length; k++) {
+        int number = index_of(order->step[k].number);
+        if (!order->step[k].applies)
+            continue;
+        if (answer != 0)
+            c->over[answer][number]++;
+        else
+            answer = number;
+    }
+    c->answered[answer]++;
+}
+
+#define MET_TEXT(name, words) words,
+const char *const MET_WORDS[METS] = {MET(MET_TEXT)};
+uint64_t met[METS];
+
+void meet(enum met what, int holds) { met[what] += holds != 0; }
+
+/* Failures */
+
+struct running running;
+
+void print_failure(int64_t want, int64_t got) {
+    printf("FAILED: %s, case %" PRIu64 ", seed %" PRIu64 "\n", running.name, running.number, running.seed);
+    printf("  again: target/differential %" PRIu64 " 1 '%s' %" PRIu64 "\n", running.seed, running.name, running.number);
+    printf("  answer: expected %" PRId64 ", came %" PRId64 "\n", want, got);
+}
+
+void print_difference(const struct lent *l) {
+    const uint8_t *got = l->got - GUARD, *want = l->want - GUARD;
+    size_t at = 0;
+    if (same(l))
+        return;
+    while (got[at] == want[at])
+        at++;
+    printf("  %s of %zu bytes: byte %ld", l->name, l->len, (long)at - GUARD);
+    if (at < GUARD || at >= GUARD + l->len)
+        printf(" (a guard byte)");
+    printf(": expected %d, came %d\n", want[at], got[at]);
+}
+
+void print_bytes(const char *name, const uint8_t *bytes, size_t len) {
+    printf("  %s, %zu bytes:", name, len);
+    for (size_t k = 0; k < len; k++)
+        printf(" %d", bytes[k]);
+    printf("\n");
+}
+
+void print_cube(const uint8_t *bytes, size_t len) {
+    size_t shown = 0;
+    printf("  cube of %zu bytes, byte=value where it is not 0:", len);
+    for (size_t k = 0; k < len && shown < 200; k++)
+        if (bytes[k] != 0) {
+            printf(" %zu=%d", k, bytes[k]);
+            shown++;
+        }
+    printf("%s\n", shown == 200 ? " ..." : "");
+}
+
+void print_text(const uint8_t *bytes, size_t len) {
+    printf("  input of %zu bytes, between dashes:\n----\n", len);
+    for (size_t k = 0; k < len; k++)
+        if (bytes[k] == ' ' || bytes[k] == 10 || ('0' <= bytes[k] && bytes[k] <= '9'))
+            putchar(bytes[k]);
+        else
+            printf("\\%02X", bytes[k]);
+    printf("----\n");
+}

@@ -1,0 +1,110 @@
+/* Buffers lent to the library and to the reference alike, counts of what the cases met, and failures printed. */
+#ifndef COMPARE_H
+#define COMPARE_H
+
+#include "reference.h"
+
+#include <stddef.h>
+#include <stdint.h>
+
+/* A buffer twice, for the library and for the reference, each between guard bytes. */
+struct lent {
+    const char *name;
+    uint8_t *got, *want;
+    size_t len, room;
+};
+
+/* Lends random bytes, given ones, or those of a random cube. */
+void lend(struct lent *lent, size_t len);
+void lend_bytes(struct lent *lent, const uint8_t *bytes, size_t len);
+void lend_cube(struct lent *lent, size_t len);
+
+/* Whether both hold the same, guard bytes included. */
+int same(const struct lent *lent);
+
+/* The refusal numbers; 0 stands for an accepted call. */
+enum { NUMBERS = 17 };
+
+extern const int NUMBER[NUMBERS];
+int index_of(int number);
+
+struct counts {
+    uint64_t answered[NUMBERS], over[NUMBERS][NUMBERS]; /* over: answered while another applied as well */
+};
+
+void count_order(struct counts *counts, const struct order *order);
+
+/* What a whole run must meet. */
+#define MET(X)                                                                                                         \
+    X(CURVE_HALF_BELOW, "curve samples on a half, the cell below")                                                     \
+    X(CURVE_HALF_ABOVE, "curve samples on a half, the cell above")                                                     \
+    X(PATCH_HALF_BELOW, "patch samples on a half, the cell below")                                                     \
+    X(PATCH_HALF_ABOVE, "patch samples on a half, the cell above")                                                     \
+    X(CURVE_NEAR_HALF, "curve samples as near to a half as their scale allows")                                        \
+    X(PATCH_NEAR_HALF, "patch samples as near to a half as their scale allows")                                        \
+    X(CURVE_STEP_ONE, "accepted curves with a step of exactly one cell")                                               \
+    X(PATCH_STEP_ONE, "accepted patches with a step of exactly one cell")                                              \
+    X(STEP_BELOW_ONE, "accepted objects with a longest step from 0.98 to below 1")                                     \
+    X(STEP_ABOVE_ONE, "15 for a longest step above 1 and below 1.02")                                                  \
+    X(SIDE_1, "objects of side 1")                                                                                     \
+    X(SIDE_2, "accepted objects of side 2")                                                                            \
+    X(SIDE_64, "accepted objects of side 64")                                                                          \
+    X(SIDE_65, "objects of side 65")                                                                                   \
+    X(COUNT_0, "objects with a step count 0")                                                                          \
+    X(COUNT_1, "accepted objects with a step count 1")                                                                 \
+    X(CURVE_512, "accepted curves of 512 steps")                                                                       \
+    X(CURVE_513, "curves of 513 steps")                                                                                \
+    X(PATCH_256_T, "accepted patches of 256 steps along t")                                                            \
+    X(PATCH_256_U, "accepted patches of 256 steps along u")                                                            \
+    X(PATCH_256_256, "accepted patches of 256 x 256 steps")                                                            \
+    X(PATCH_257, "patches of 257 steps")                                                                               \
+    X(COORDINATE_LAST, "accepted objects with a coordinate side - 1")                                                  \
+    X(COORDINATE_SIDE, "14 with a coordinate equal to the side")                                                       \
+    X(LIST_EXACT, "accepted lists of exactly 3 (n + 1) bytes")                                                         \
+    X(LIST_SHORT, "22 for a list one byte short")                                                                      \
+    X(GRID_SHORT, "21 for a grid one byte short")                                                                      \
+    X(GRID_LONG, "21 for a grid one byte long")                                                                        \
+    X(CHANNEL_HALF, "accepted swatches with a channel on a half")                                                      \
+    X(CHANNEL_MINUS_ZERO, "accepted swatches with a minus zero")                                                       \
+    X(CHANNEL_SUBNORMAL, "accepted swatches with a subnormal channel")                                                 \
+    X(CHANNEL_DARK, "accepted swatches with a channel below 1/128")                                                    \
+    X(CHANNEL_ABOVE_1, "32 for a channel one above 1")                                                                 \
+    X(SUM_ROUNDED, "half-way swatches with a rounded sum")                                                             \
+    X(COLOUR_COLOUR, "half-way of two colours")                                                                        \
+    X(COLOUR_GREY, "half-way of a colour and a grey")                                                                  \
+    X(GREY_COLOUR, "half-way of a grey and a colour")                                                                  \
+    X(GREY_GREY, "half-way of two greys")                                                                              \
+    X(SHEET_200, "accepted sheets of 200 curve lines")                                                                 \
+    X(SHEET_SIDE_40, "accepted sheets of side 40")                                                                     \
+    X(PART_HEADING, "parts that begin with the heading")                                                               \
+    X(PART_PAST, "parts that begin past the cube")                                                                     \
+    X(LIST_OF_THREE, "lists with three accepted calls or more")
+
+#define MET_NAME(name, words) name,
+enum met { MET(MET_NAME) METS };
+
+extern const char *const MET_WORDS[METS];
+extern uint64_t met[METS];
+
+void meet(enum met what, int holds);
+
+/* The case that runs. */
+struct running {
+    uint64_t seed, number;
+    int kind;
+    const char *name;
+};
+
+extern struct running running;
+
+void print_failure(int64_t want, int64_t got);
+void print_difference(const struct lent *lent);
+void print_bytes(const char *name, const uint8_t *bytes, size_t len);
+
+/* Shows the bytes that are not 0, at most 200. */
+void print_cube(const uint8_t *bytes, size_t len);
+
+/* Other bytes than blanks, digits and line feeds as \hex. */
+void print_text(const uint8_t *bytes, size_t len);
+
+#endif

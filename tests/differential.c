@@ -1,0 +1,757 @@
+/* Runs seeded random calls of the C interface against the exact reference of reference.h and compares every answer and
+   every byte of every buffer, with guard bytes on both sides. Usage: differential [seed [scale [kind number]]] */
+#include "cases.h"
+#include "compare.h"
+#include "gidzkhalu.h"
+#include "reference.h"
+
+#include <inttypes.h>
+#include <stdio.h>
+#include <stdlib.h>
+#include <string.h>
+#include <time.h>
+
+static struct lent points = {"points", NULL, NULL, 0, 0}, grid = {"grid or list", NULL, NULL, 0, 0},
+                   small = {"cell or channels", NULL, NULL, 0, 0}, input = {"input", NULL, NULL, 0, 0},
+                   buffer = {"buffer", NULL, NULL, 0, 0}, detail = {"detail", NULL, NULL, 0, 0},
+                   cube = {"cube", NULL, NULL, 0, 0}, text = {"text", NULL, NULL, 0, 0};
+
+enum { KINDS = 24 };
+
+static struct counts counted[KINDS];
+
+/* Curves and patches */
+
+static const char *const SERVICE[] = {"check", "list", "draw"};
+
+static void print_object(const struct object_call *c) {
+    printf("  %s %s: side %" PRIu32 ", n %" PRIu32, SERVICE[c->service], c->patch ? "patch" : "curve", c->side, c->n);
+    if (c->patch)
+        printf(", m %" PRIu32, c->m);
+    if (c->service == DRAW)
+        printf(", mark %d", c->mark);
+    if (c->service != CHECK)
+        printf(", %s of %zu bytes", c->service == LIST ? "list" : "grid", c->lent_len);
+    printf("\n");
+    print_bytes("points", c->points, c->points_len);
+}
+
+static int64_t library_object(const struct object_call *c) {
+    const uint8_t *p = c->points;
+    size_t len = c->points_len;
+    if (c->patch && c->service == CHECK)
+        return gidzkhalu_check_patch(c->side, p, len, c->n, c->m);
+    if (c->patch)
+        return gidzkhalu_draw_patch(c->side, p, len, c->n, c->m, c->mark, c->lent, c->lent_len);
+    if (c->service == CHECK)
+        return gidzkhalu_check_curve(c->side, p, len, c->n);
+    if (c->service == LIST)
+        return gidzkhalu_list_curve(c->side, p, len, c->n, c->lent, c->lent_len);
+    return gidzkhalu_draw_curve(c->side, p, len, c->n, c->mark, c->lent, c->lent_len);
+}
+
+static int any_coordinate(const struct object_call *c, uint32_t value) {
+    for (size_t k = 0; k < c->points_len; k++)
+        if (c->points[k] == value)
+            return 1;
+    return 0;
+}
+
+/* The values of the last object that passed all numbers before 15, and its cells if it was accepted. */
+static struct samples samples;
+
+static void meet_accepted_object(const struct object_call *c) {
+    wide longest = longest_step(&samples);
+    count_ties(&samples, &met[c->patch ? PATCH_HALF_BELOW : CURVE_HALF_BELOW],
+               &met[c->patch ? PATCH_HALF_ABOVE : CURVE_HALF_ABOVE],
+               &met[c->patch ? PATCH_NEAR_HALF : CURVE_NEAR_HALF]);
+    meet(c->patch ? PATCH_STEP_ONE : CURVE_STEP_ONE, longest == samples.scale);
+    meet(STEP_BELOW_ONE, longest < samples.scale && 50 * longest >= 49 * samples.scale);
+    meet(SIDE_2, c->side == 2);
+    meet(SIDE_64, c->side == 64);
+    meet(COUNT_1, c->n == 1 || (c->patch && c->m == 1));
+    meet(CURVE_512, !c->patch && c->n == 512);
+    meet(PATCH_256_T, c->patch && c->n == 256);
+    meet(PATCH_256_U, c->patch && c->m == 256);
+    meet(PATCH_256_256, c->patch && c->n == 256 && c->m == 256);
+    meet(COORDINATE_LAST, any_coordinate(c, c->side - 1));
+    meet(LIST_EXACT, c->service == LIST && c->lent_len == 3 * ((size_t)c->n + 1));
+}
+
+static void meet_refused_object(const struct object_call *c, int64_t answer) {
+    size_t volume = (size_t)c->side * c->side * c->side;
+    meet(SIDE_1, answer == -11 && c->side == 1);
+    meet(SIDE_65, answer == -11 && c->side == 65);
+    meet(COUNT_0, answer == -13 && (c->n == 0 || (c->patch && c->m == 0)));
+    meet(CURVE_513, answer == -13 && !c->patch && c->n == 513);
+    meet(PATCH_257, answer == -13 && c->patch && (c->n == 257 || c->m == 257));
+    meet(COORDINATE_SIDE, answer == -14 && any_coordinate(c, c->side));
+    meet(LIST_SHORT, answer == -22 && c->lent_len + 1 == 3 * ((size_t)c->n + 1));
+    meet(GRID_SHORT, answer == -21 && c->lent_len + 1 == volume);
+    meet(GRID_LONG, answer == -21 && c->lent_len == volume + 1);
+    meet(STEP_ABOVE_ONE, answer == -15 && 50 * longest_step(&samples) < 51 * samples.scale);
+}
+
+/* Compares one call on the buffers points and grid; *want is the answer that the reference gives. */
+static int compare_object(struct object_call *c, int64_t *want) {
+    struct order order = {0};
+    int64_t got;
+    c->points = points.want;
+    c->lent = grid.want;
+    *want = reference_object(c, &order, &samples);
+    c->points = points.got;
+    c->lent = grid.got;
+    got = library_object(c);
+    count_order(&counted[running.kind], &order);
+    if (*want >= 0)
+        meet_accepted_object(c);
+    else
+        meet_refused_object(c, *want);
+    if (*want == got && same(&points) && same(&grid))
+        return 1;
+    print_failure(*want, got);
+    c->points = points.want;
+    print_object(c);
+    print_difference(&points);
+    print_difference(&grid);
+    return 0;
+}
+
+static int object_case(enum service service, int patch, int large, unsigned faults) {
+    struct object_call c = {service, patch, 0, 0, 0, 0, NULL, 0, NULL, 0};
+    uint8_t record[64];
+    int64_t answer;
+    c.side = !large ? random_side() : one_in(2) ? 64 : 33 + below(32);
+    random_object(&c, record, large, faults);
+    lend_bytes(&points, record, c.points_len);
+    if (service == LIST)
+        lend(&grid, c.lent_len);
+    else
+        lend_cube(&grid, service == DRAW ? c.lent_len : 0);
+    return compare_object(&c, &answer);
+}
+
+static int check_curve(void) { return object_case(CHECK, 0, 0, random_faults(ALL_FAULTS)); }
+static int list_curve(void) { return object_case(LIST, 0, 0, random_faults(ALL_FAULTS)); }
+static int draw_curve(void) { return object_case(DRAW, 0, 0, random_faults(ALL_FAULTS)); }
+static int check_patch(void) { return object_case(CHECK, 1, 0, random_faults(ALL_FAULTS)); }
+static int draw_patch(void) { return object_case(DRAW, 1, 0, random_faults(ALL_FAULTS)); }
+
+static int large_curve(void) {
+    return object_case((enum service)below(3), 0, 1, one_in(4) ? random_faults(ALL_FAULTS) : 0);
+}
+
+static int large_patch(void) {
+    return object_case(one_in(4) ? CHECK : DRAW, 1, 1, one_in(8) ? random_faults(ALL_FAULTS) : 0);
+}
+
+/* Swatches */
+
+static float float_of(uint32_t bits) {
+    float v;
+    memcpy(&v, &bits, 4);
+    return v;
+}
+
+static void print_swatch(const struct swatch *s) {
+    printf("  kind %" PRIu32 ", channels %08" PRIX32 " %08" PRIX32 " %08" PRIX32 "\n", s->kind, s->channel[0],
+           s->channel[1], s->channel[2]);
+}
+
+static size_t small_length(size_t right, int wrong) {
+    static const size_t lengths[] = {0, 1, 2, 3, 4, 11, 12, 13, 16};
+    size_t len = right;
+    while (wrong && len == right)
+        len = lengths[below(9)];
+    return len;
+}
+
+static void meet_swatch(uint32_t side, const struct swatch *s, int64_t answer) {
+    int minus_zero = 0, subnormal = 0, dark = 0, above = 0;
+    for (int k = 0; k < (s->kind == 1 ? 1 : 3); k++) {
+        uint32_t bits = s->channel[k];
+        minus_zero |= bits == 0x80000000;
+        subnormal |= 0 < bits && bits < 0x00800000;
+        dark |= 0x00800000 <= bits && bits < 0x3C000000;
+        above |= bits == 0x3F800001;
+    }
+    meet(CHANNEL_ABOVE_1, answer == -32 && above);
+    meet(CHANNEL_MINUS_ZERO, answer == 0 && minus_zero);
+    meet(CHANNEL_SUBNORMAL, answer == 0 && subnormal);
+    meet(CHANNEL_DARK, answer == 0 && dark);
+    meet(CHANNEL_HALF, answer == 0 && channels_on_half(side, s) > 0);
+}
+
+static int to_cell_case(int wrong) {
+    struct order order = {0};
+    struct swatch s;
+    uint32_t side = one_in(8) ? bad_side() : 2 + below(63);
+    unsigned faults = wrong ? 1 + below(3) : one_in(20) ? below(4) : 0;
+    int64_t want, got;
+    random_swatch(&s, side);
+    if (faults & 1)
+        s.kind = bad_kind();
+    lend(&small, small_length(3, faults & 2));
+    want = reference_to_cell(side, &s, small.want, small.len, &order);
+    got = gidzkhalu_to_cell(side, s.kind, float_of(s.channel[0]), float_of(s.channel[1]), float_of(s.channel[2]),
+                            small.got, small.len);
+    count_order(&counted[running.kind], &order);
+    meet_swatch(side, &s, want);
+    if (want == got && same(&small))
+        return 1;
+    print_failure(want, got);
+    printf("  to_cell: side %" PRIu32 ", cell of %zu bytes\n", side, small.len);
+    print_swatch(&s);
+    print_difference(&small);
+    return 0;
+}
+
+static int to_cell(void) { return to_cell_case(0); }
+
+static void meet_half_way(const struct swatch *a, const struct swatch *b) {
+    uint32_t bits = a->channel[0], other = b->channel[0];
+    uint32_t low = bits < other ? bits : other, high = bits < other ? other : bits;
+    meet(a->kind == 0 ? (b->kind == 0 ? COLOUR_COLOUR : COLOUR_GREY) : (b->kind == 0 ? GREY_COLOUR : GREY_GREY), 1);
+    meet(SUM_ROUNDED, high < 0x80000000 && (low >> 23) + 1 == high >> 23 && low % 2 == 1);
+}
+
+static int half_way_case(int wrong) {
+    struct order order = {0};
+    struct swatch a, b;
+    unsigned faults = wrong ? 1 + below(7) : one_in(20) ? below(8) : 0;
+    int64_t want, got;
+    random_swatch(&a, random_side());
+    random_second(&b, &a);
+    if (faults & 1)
+        a.kind = bad_kind();
+    if (faults & 2)
+        b.kind = bad_kind();
+    lend(&small, small_length(12, faults & 4));
+    want = reference_half_way(&a, &b, small.want, small.len, &order);
+    got = gidzkhalu_half_way(a.kind, float_of(a.channel[0]), float_of(a.channel[1]), float_of(a.channel[2]), b.kind,
+                             float_of(b.channel[0]), float_of(b.channel[1]), float_of(b.channel[2]), small.got,
+                             small.len);
+    count_order(&counted[running.kind], &order);
+    if (want == 0)
+        meet_half_way(&a, &b);
+    if (want == got && same(&small))
+        return 1;
+    print_failure(want, got);
+    printf("  half_way: channels of %zu bytes\n", small.len);
+    print_swatch(&a);
+    print_swatch(&b);
+    print_difference(&small);
+    return 0;
+}
+
+static int half_way(void) { return half_way_case(0); }
+
+/* Sheets */
+
+static size_t sheet_buffer_length(void) {
+    static const size_t lengths[] = {0, 1, 8, 63999, 64001, 64000 - 71, 65536};
+    return one_in(2) ? lengths[below(7)] : 63999 + 2 * below(2);
+}
+
+static int sheet_case(int large, int wrong) {
+    static uint8_t sheet[SHEET_ROOM];
+    struct order order = {0};
+    int64_t want, got;
+    lend_bytes(&input, sheet, random_sheet(sheet, large));
+    lend(&buffer, one_in(20) ? sheet_buffer_length() : 64000);
+    lend(&detail, small_length(1, wrong || one_in(40)));
+    want = reference_draw_sheet(input.want, input.len, buffer.want, buffer.len, detail.want, detail.len, &order);
+    got = gidzkhalu_draw_sheet(input.got, input.len, buffer.got, buffer.len, detail.got, detail.len);
+    count_order(&counted[running.kind], &order);
+    meet(SHEET_200, want == 200);
+    meet(SHEET_SIDE_40, want >= 0 && detail.want[0] == 40);
+    if (want == got && same(&input) && same(&buffer) && same(&detail))
+        return 1;
+    print_failure(want, got);
+    printf("  draw_sheet: buffer of %zu bytes, detail of %zu bytes\n", buffer.len, detail.len);
+    print_text(input.want, input.len);
+    print_difference(&input);
+    print_difference(&buffer);
+    print_difference(&detail);
+    return 0;
+}
+
+static int draw_sheet(void) { return sheet_case(0, 0); }
+static int large_sheet(void) { return sheet_case(1, 0); }
+
+/* Listings */
+
+/* A byte to begin at: the ends of the cube and of its rows, and far past it. */
+static size_t random_first(uint32_t side, size_t len) {
+    switch (below(6)) {
+    case 0:
+        return 0;
+    case 1:
+        return side * (size_t)below(200);
+    case 2:
+        return len - 1 + below(3);
+    case 3:
+        return one_in(4) ? SIZE_MAX - below(3) : len + below(1000);
+    default:
+        return below((uint32_t)len + 1);
+    }
+}
+
+static size_t random_count_of_places(size_t first, size_t len) {
+    switch (len > 5000 && !one_in(8) ? 0 : below(5)) {
+    case 0:
+        return below(one_in(2) ? 3 : 300);
+    case 1:
+        return first < len ? len - first + below(3) : below(10);
+    case 2:
+        return len;
+    default:
+        return below((uint32_t)len + 1);
+    }
+}
+
+/* 21 (count + 1) bytes or some more; too few of them where they are to be short, or for a count that overflows. */
+static size_t random_text_length(size_t *count, int short_of) {
+    size_t least = 21 * (*count + 1);
+    if (short_of && one_in(4)) {
+        *count = one_in(2) ? SIZE_MAX - below(2) : SIZE_MAX / 21 + below(2);
+        return below(100);
+    }
+    if (short_of)
+        return one_in(2) ? least - 1 : below((uint32_t)least);
+    return least + (one_in(2) ? 0 : below(50));
+}
+
+/* Compares one part; *bytes is the library's answer, and its text is in text.got. */
+static int compare_part(uint32_t side, size_t first, size_t count, size_t text_len, int64_t *bytes) {
+    struct order order = {0};
+    int64_t want;
+    lend(&text, text_len);
+    want = reference_list_part(side, cube.want, cube.len, first, count, text.want, text.len, &order);
+    *bytes = gidzkhalu_list_part(side, cube.got, cube.len, first, count, text.got, text.len);
+    count_order(&counted[running.kind], &order);
+    meet(PART_HEADING, want >= 0 && first == 0);
+    meet(PART_PAST, want >= 0 && first >= cube.len);
+    if (want == *bytes && same(&cube) && same(&text))
+        return 1;
+    print_failure(want, *bytes);
+    printf("  list_part: side %" PRIu32 ", first %zu, count %zu, text of %zu bytes\n", side, first, count, text.len);
+    print_cube(cube.want, cube.len);
+    print_difference(&cube);
+    print_difference(&text);
+    return 0;
+}
+
+static int part_case(uint32_t side) {
+    unsigned faults = random_faults(BAD_SIDE | BAD_LENGTH | BAD_RECORD);
+    size_t len, first, count, text_len;
+    int64_t bytes;
+    if (faults & BAD_SIDE)
+        side = bad_side();
+    len = side <= 66 ? (size_t)side * side * side : (uint32_t)(side * side * side) % 300000;
+    if (faults & BAD_LENGTH)
+        len = one_in(4) ? below(1000) : len > 0 ? len - 1 + 2 * below(2) : 1;
+    lend_cube(&cube, len);
+    first = random_first(side, len);
+    count = random_count_of_places(first, len);
+    text_len = random_text_length(&count, faults & BAD_RECORD);
+    return compare_part(side, first, count, text_len, &bytes);
+}
+
+/* The parts in turn, one behind another, are the whole listing. */
+static int joined_case(uint32_t side) {
+    static uint8_t whole[21 * (64 * 64 * 64 + 1)], joined[2 * sizeof whole];
+    size_t len = (size_t)side * side * side, at = 0;
+    int64_t all, bytes;
+    lend_cube(&cube, len);
+    if (!compare_part(side, 0, len, 21 * (len + 1), &all))
+        return 0;
+    memcpy(whole, text.got, (size_t)all);
+    for (size_t first = 0, count; first < len; first += count, at += (size_t)bytes) {
+        count = 1 + below(one_in(2) ? side : (uint32_t)len);
+        if (!compare_part(side, first, count, 21 * (count + 1), &bytes))
+            return 0;
+        memcpy(joined + at, text.got, (size_t)bytes);
+    }
+    if (at == (size_t)all && memcmp(whole, joined, at) == 0)
+        return 1;
+    print_failure(all, (int64_t)at);
+    printf("  parts joined: side %" PRIu32 "\n", side);
+    print_cube(cube.want, cube.len);
+    return 0;
+}
+
+static int list_part(void) { return part_case(one_in(200) ? 2 + below(63) : 2 + below(8)); }
+static int parts_joined(void) { return joined_case(2 + below(6)); }
+static int large_listing(void) {
+    uint32_t side = one_in(2) ? 64 : 20 + below(45);
+    return one_in(2) ? part_case(side) : joined_case(side);
+}
+
+static int refusal_line(void) {
+    struct order order = {0};
+    uint32_t number = one_in(2) ? below(100) : one_in(2) ? below(100000) : random_word();
+    uint32_t line = one_in(2) ? below(203) : one_in(2) ? below(100000) : random_word();
+    int64_t want, got;
+    lend(&text, one_in(4) ? 17 - (one_in(2) ? 0 : below(18)) : 18 + below(8));
+    want = reference_refusal_line(number, line, text.want, text.len, &order);
+    got = gidzkhalu_refusal_line(number, line, text.got, text.len);
+    count_order(&counted[running.kind], &order);
+    if (want == got && same(&text))
+        return 1;
+    print_failure(want, got);
+    printf("  refusal_line: number %" PRIu32 ", line %" PRIu32 ", text of %zu bytes\n", number, line, text.len);
+    print_difference(&text);
+    return 0;
+}
+
+/* 51, 52 or 53 for each call that can have them, often with another number that applies. */
+static int wrong_length(void) {
+    unsigned faults = BAD_RECORD | random_faults(ALL_FAULTS);
+    switch (below(16)) {
+    case 0:
+    case 1:
+    case 2:
+        return to_cell_case(1);
+    case 3:
+    case 4:
+    case 5:
+        return half_way_case(1);
+    case 6:
+        return sheet_case(0, 1);
+    case 7:
+    case 8:
+        return object_case(one_in(2) ? CHECK : DRAW, 1, 0, faults);
+    default:
+        return object_case((enum service)below(3), 0, 0, faults);
+    }
+}
+
+/* Lists of calls into one grid: demand 3 */
+
+enum { CALLS = 12, CELLS = 64 * 64 * 64 };
+
+static struct object_call calls[CALLS];
+static uint8_t call_points[CALLS][64];
+static int call_accepted[CALLS];
+
+static void random_call(struct object_call *c, uint8_t *record, uint32_t side) {
+    c->service = DRAW;
+    c->patch = one_in(5);
+    c->side = one_in(20) ? random_side() : side;
+    c->m = 0;
+    random_object(c, record, 0, one_in(4) ? random_faults(ALL_FAULTS) : 0);
+    c->lent_len = grid.len;
+}
+
+static int print_list(const char *fault, int length, const uint8_t *start) {
+    printf("FAILED: %s, case %" PRIu64 ", seed %" PRIu64 ": %s\n", running.name, running.number, running.seed, fault);
+    print_cube(start, grid.len);
+    for (int k = 0; k < length; k++) {
+        printf("  call %d, %s\n", k, call_accepted[k] ? "accepted" : "refused");
+        print_object(&calls[k]);
+    }
+    return 0;
+}
+
+/* Draws call k and, if it is accepted, checks the second sentence just after it. */
+static int call_holds(int k) {
+    struct object_call c = calls[k];
+    int64_t answer;
+    lend_bytes(&points, call_points[k], c.points_len);
+    call_accepted[k] = 0;
+    if (!compare_object(&c, &answer))
+        return 0;
+    call_accepted[k] = answer >= 0;
+    if (answer < 0)
+        return 1;
+    return samples_hold(&samples, c.side, c.mark, grid.got);
+}
+
+/* The first sentence, for the grid after the list. */
+static int list_holds(int length, const uint8_t *start) {
+    static uint8_t explained[CELLS];
+    memset(explained, 0, grid.len);
+    for (int k = 0; k < length; k++)
+        if (call_accepted[k]) {
+            exact_values(&calls[k], &samples);
+            explain(&samples, calls[k].side, calls[k].mark, grid.got, explained);
+        }
+    for (size_t p = 0; p < grid.len; p++)
+        if (grid.got[p] != start[p] && !explained[p])
+            return 0;
+    return 1;
+}
+
+static int list_of_calls(void) {
+    static uint8_t start[CELLS];
+    uint32_t side = random_side();
+    int length = (int)below(CALLS + 1), accepted = 0;
+    lend_cube(&grid, (size_t)side * side * side);
+    memcpy(start, grid.got, grid.len);
+    for (int k = 0; k < length; k++) {
+        random_call(&calls[k], call_points[k], side);
+        if (!call_holds(k))
+            return print_list("demand 3's second sentence, or a call that is not the reference's", k + 1, start);
+        accepted += call_accepted[k];
+    }
+    meet(LIST_OF_THREE, accepted >= 3);
+    return list_holds(length, start) || print_list("demand 3's first sentence", length, start);
+}
+
+/* Document 01's samples: the reference and the library give what is written there */
+
+static const struct {
+    const char *name;
+    uint8_t g[4];
+    uint32_t n;
+    const char *cells; /* empty: accepted; NULL: refused, 15 */
+} KNOWN[] = {
+    {"K1", {0, 1, 2, 3}, 3, "0123"},    {"K2", {0, 1, 2, 3}, 2, NULL},       {"K3", {0, 1, 2, 3}, 6, "0011223"},
+    {"K4", {3, 2, 1, 0}, 6, "3322110"}, {"K5", {0, 0, 0, 1}, 1, "01"},       {"K6", {0, 0, 0, 2}, 1, NULL},
+    {"K7", {0, 0, 0, 6}, 17, ""},       {"K8", {0, 0, 0, 6}, 16, NULL},      {"K9", {0, 3, 3, 0}, 9, "0122222210"},
+    {"K10", {0, 3, 3, 0}, 7, NULL},     {"K10, n = 8", {0, 3, 3, 0}, 8, ""}, {"K11", {5, 5, 5, 5}, 1, "55"}};
+
+static int known_failed(const char *name) {
+    printf("FAILED: document 01's sample %s\n", name);
+    return 0;
+}
+
+static int known_curve(int k, int axis) {
+    struct object_call c = {LIST, 0, 8, 0, 0, 0, NULL, 12, NULL, 64};
+    const char *cells = KNOWN[k].cells;
+    int64_t answer;
+    lend(&points, 12);
+    memset(points.want, 0, 12);
+    for (int i = 0; i < 4; i++)
+        points.want[3 * i + axis] = KNOWN[k].g[i];
+    memcpy(points.got, points.want, 12);
+    lend(&grid, c.lent_len);
+    c.n = KNOWN[k].n;
+    if (!compare_object(&c, &answer) || answer != (cells == NULL ? -15 : (int64_t)c.n + 1))
+        return known_failed(KNOWN[k].name);
+    for (size_t i = 0; cells != NULL && cells[i] != 0; i++)
+        if (grid.got[3 * i + (size_t)axis] != cells[i] - '0')
+            return known_failed(KNOWN[k].name);
+    return 1;
+}
+
+/* K12: x of g(i, j) is i + j; row 2 along t. No call lists a patch: the reference has the row, the grids agree. */
+static int known_patch(void) {
+    struct object_call c = {DRAW, 1, 8, 4, 4, 9, NULL, 48, NULL, 512};
+    int64_t answer;
+    lend(&points, 48);
+    memset(points.want, 0, 48);
+    for (int k = 0; k < 16; k++)
+        points.want[3 * k] = (uint8_t)(k / 4 + k % 4);
+    memcpy(points.got, points.want, 48);
+    lend_cube(&grid, 512);
+    if (!compare_object(&c, &answer) || answer != 25)
+        return known_failed("K12");
+    for (int i = 0; i < 5; i++)
+        if (samples.cell[0][2 * 5 + i] != "12344"[i] - '0')
+            return known_failed("K12");
+    return 1;
+}
+
+static int known_swatch(uint32_t side, uint32_t bits, uint8_t coordinate) {
+    struct order order = {0};
+    struct swatch grey = {1, {bits, bits, bits}};
+    uint8_t want[3], got[3] = {99, 99, 99};
+    if (reference_to_cell(side, &grey, want, 3, &order) != 0 ||
+        gidzkhalu_to_cell(side, 1, float_of(bits), 0, 0, got, 3) != 0)
+        return known_failed("of swatches");
+    for (int k = 0; k < 3; k++)
+        if (want[k] != coordinate || got[k] != coordinate)
+            return known_failed("of swatches");
+    return 1;
+}
+
+static int known_sheet(void) {
+    static const char sheet[] = "    4\n"
+                                "    7    3    0    0    0    1    0    0    2    0    0    3    0    0\n";
+    static const char listing[] = "    X    Y    Z MARK\n    0    0    0    7\n    1    0    0    7\n"
+                                  "    2    0    0    7\n    3    0    0    7\n";
+    static uint8_t drawn[64000], listed[21 * 65], side, line;
+    int64_t bytes;
+    if (gidzkhalu_draw_sheet((const uint8_t *)sheet, sizeof sheet - 1, drawn, sizeof drawn, &side, 1) != 1 || side != 4)
+        return known_failed("of a sheet");
+    bytes = gidzkhalu_list_part(4, drawn, 64, 0, 64, listed, sizeof listed);
+    if (bytes != sizeof listing - 1 || memcmp(listed, listing, sizeof listing - 1) != 0)
+        return known_failed("of a listing");
+    if (gidzkhalu_draw_sheet(drawn, 0, drawn, sizeof drawn, &line, 1) != -41 || line != 1 ||
+        gidzkhalu_refusal_line(41, line, listed, 18) != 18 || memcmp(listed, "REFUSED   41    1\n", 18) != 0)
+        return known_failed("of an empty input");
+    return 1;
+}
+
+static int document_samples(void) {
+    int good = known_patch() & known_sheet() & known_swatch(2, 0x3F000000, 0) & known_swatch(3, 0x3E800000, 0) &
+               known_swatch(3, 0x3E800001, 1);
+    for (uint32_t side = 2; side <= 64; side++)
+        good &= known_swatch(side, 0x3F800000, (uint8_t)(side - 1));
+    for (int k = 0; k < (int)(sizeof KNOWN / sizeof *KNOWN); k++)
+        for (int axis = 0; axis < 3; axis++)
+            good &= known_curve(k, axis);
+    return good;
+}
+
+/* The run */
+
+static const int CHECK_ORDER[] = {51, 11, 13, 14, 15, 0}, LIST_ORDER[] = {51, 11, 13, 22, 14, 15, 0},
+                 DRAW_ORDER[] = {51, 11, 21, 12, 13, 14, 15, 0}, CELL_ORDER[] = {53, 52, 11, 31, 32, 31, 32, 0},
+                 HALF_ORDER[] = {53, 52, 31, 32, 31, 32, 0}, SIDE_LINE_ORDER[] = {52, 21, 41, 42, 11, 43, 0},
+                 CURVE_LINE_ORDER[] = {52, 21, 44, 41, 42, 12, 13, 14, 15, 0}, PART_ORDER[] = {11, 21, 22, 0},
+                 LINE_ORDER[] = {22, 0}, RECORD_ORDER[] = {51, 0}, OUT_ORDER[] = {53, 52, 0};
+
+static const struct kind {
+    const char *name;
+    uint64_t cases;
+    int (*run)(void);
+    const int *order[2]; /* every two numbers of an order are to be met together */
+} KIND[] = {{"document samples", 1, document_samples, {NULL, NULL}},
+            {"check curve", 2000000, check_curve, {CHECK_ORDER, NULL}},
+            {"list curve", 2000000, list_curve, {LIST_ORDER, NULL}},
+            {"draw curve", 2000000, draw_curve, {DRAW_ORDER, NULL}},
+            {"check patch", 1000000, check_patch, {CHECK_ORDER, NULL}},
+            {"draw patch", 1000000, draw_patch, {DRAW_ORDER, NULL}},
+            {"swatch to cell", 4000000, to_cell, {CELL_ORDER, NULL}},
+            {"half-way", 4000000, half_way, {HALF_ORDER, NULL}},
+            {"sheet", 1000000, draw_sheet, {SIDE_LINE_ORDER, CURVE_LINE_ORDER}},
+            {"part of a listing", 1000000, list_part, {PART_ORDER, NULL}},
+            {"parts joined", 100000, parts_joined, {NULL, NULL}},
+            {"refusal line", 1000000, refusal_line, {LINE_ORDER, NULL}},
+            {"wrong lengths", 1000000, wrong_length, {RECORD_ORDER, OUT_ORDER}},
+            {"list of calls", 200000, list_of_calls, {DRAW_ORDER, NULL}},
+            {"large curve", 100000, large_curve, {NULL, NULL}},
+            {"large patch", 3000, large_patch, {NULL, NULL}},
+            {"large sheet", 5000, large_sheet, {NULL, NULL}},
+            {"large listing", 1000, large_listing, {NULL, NULL}}};
+
+enum { KIND_COUNT = sizeof KIND / sizeof *KIND };
+
+static int run_case(int kind, uint64_t number) {
+    running.kind = kind;
+    running.name = KIND[kind].name;
+    running.number = number;
+    start_case((uint64_t)kind, number);
+    return KIND[kind].run();
+}
+
+static void print_counts(const struct counts *c) {
+    for (int k = 0; k < NUMBERS; k++)
+        if (c->answered[k] > 0 && k == 0)
+            printf("  accepted %" PRIu64, c->answered[k]);
+        else if (c->answered[k] > 0)
+            printf("  %d: %" PRIu64, NUMBER[k], c->answered[k]);
+    printf("\n");
+}
+
+/* A kind's cases up to its first failure; answers whether there was none. */
+static int run_kind(int kind, double scale) {
+    uint64_t cases = (uint64_t)((double)KIND[kind].cases * scale), number = 0;
+    clock_t start = clock();
+    if (cases < 1)
+        cases = 1;
+    while (number < cases && run_case(kind, number))
+        number++;
+    printf("%-18s %9" PRIu64 " cases %6.1f s ", KIND[kind].name, number, (double)(clock() - start) / CLOCKS_PER_SEC);
+    print_counts(&counted[kind]);
+    fflush(stdout);
+    return number == cases;
+}
+
+/* A record of wrong length has no coordinates and no steps, and no side is outside 2 to 64 and in 41 to 64. */
+static int never_together(int first, int second) {
+    return (first == 51 && (second == 14 || second == 15)) || (first == 11 && second == 43);
+}
+
+static int pair_met(int kind, int first, int second) {
+    if (never_together(first, second) || counted[kind].over[index_of(first)][index_of(second)] > 0)
+        return 1;
+    printf("NOT MET: %s: %d answered where %d applies as well\n", KIND[kind].name, first, second);
+    return 0;
+}
+
+static int order_met(int kind, const int *order) {
+    int good = 1;
+    for (int a = 0; order != NULL && order[a] != 0; a++) {
+        if (counted[kind].answered[index_of(order[a])] == 0) {
+            printf("NOT MET: %s: %d\n", KIND[kind].name, order[a]);
+            good = 0;
+        }
+        for (int b = a + 1; order[b] != 0; b++)
+            good &= pair_met(kind, order[a], order[b]);
+    }
+    return good;
+}
+
+static void print_pairs(int kind) {
+    int shown = 0;
+    for (int a = 1; a < NUMBERS; a++)
+        for (int b = 1; b < NUMBERS; b++) {
+            uint64_t times = counted[kind].over[a][b];
+            if (times == 0)
+                continue;
+            if (shown++ % 8 == 0)
+                printf("\n%-18s", shown == 1 ? KIND[kind].name : "");
+            printf(" %d>%d %-6" PRIu64, NUMBER[a], NUMBER[b], times);
+        }
+}
+
+/* Prints what the cases met; answers whether all that a whole run must meet was met. */
+static int print_met(void) {
+    int good = 1;
+    printf("\nanswered > applied as well:");
+    for (int kind = 0; kind < KIND_COUNT; kind++)
+        print_pairs(kind);
+    printf("\n\nmet:\n");
+    for (int k = 0; k < METS; k++)
+        printf("%9" PRIu64 " %s\n", met[k], MET_WORDS[k]);
+    for (int k = 0; k < METS; k++)
+        good &= met[k] > 0;
+    for (int kind = 0; kind < KIND_COUNT; kind++)
+        good &= order_met(kind, KIND[kind].order[0]) & order_met(kind, KIND[kind].order[1]);
+    return good;
+}
+
+static void print_totals(void) {
+    struct counts total = {{0}, {{0}}};
+    for (int kind = 0; kind < KIND_COUNT; kind++)
+        for (int k = 0; k < NUMBERS; k++)
+            total.answered[k] += counted[kind].answered[k];
+    printf("all calls:");
+    print_counts(&total);
+}
+
+static int run_all(double scale) {
+    int failed = 0, all_met;
+    for (int kind = 0; kind < KIND_COUNT; kind++)
+        failed += !run_kind(kind, scale);
+    print_totals();
+    all_met = print_met();
+    if (failed > 0)
+        printf("%d kinds of %d failed\n", failed, KIND_COUNT);
+    else if (scale >= 1 && !all_met)
+        printf("no difference, but not all was met\n");
+    else
+        printf("%d kinds, no difference, seed %" PRIu64 "\n", KIND_COUNT, running.seed);
+    return failed > 0 || (scale >= 1 && !all_met);
+}
+
+static int run_one(const char *name, uint64_t number) {
+    for (int kind = 0; kind < KIND_COUNT; kind++)
+        if (strcmp(KIND[kind].name, name) == 0)
+            return !run_case(kind, number);
+    printf("no kind is named '%s'\n", name);
+    return 2;
+}
+
+int main(int argc, char **argv) {
+    double scale = argc > 2 ? strtod(argv[2], NULL) : 1;
+    running.seed = argc > 1 ? strtoull(argv[1], NULL, 10) : 1;
+    start_run(running.seed);
+    if (argc > 4)
+        return run_one(argv[3], strtoull(argv[4], NULL, 10));
+    return run_all(scale);
+}
