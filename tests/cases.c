@@ -559,20 +559,27 @@ static uint32_t random_lines(int large, int *trivial) {
     return *trivial ? 199 + below(4) : below(6);
 }
 
+/* Any bytes, or one byte over and over. */
+static size_t no_sheet(uint8_t *bytes) {
+    static const uint8_t likely[] = {' ', '0', '5', 10};
+    size_t len = below(one_in(10) ? SHEET_ROOM : 200);
+    random_bytes(bytes, len);
+    if (one_in(4))
+        memset(bytes, PICK(likely), len);
+    return len;
+}
+
 size_t random_sheet(uint8_t *bytes, int large) {
     struct text text = {bytes, 0};
     int trivial, ended;
     uint32_t lines = random_lines(large, &trivial), side = one_in(4) ? 2 + below(39) : 2 + below(9);
     uint32_t faulty = one_in(large ? 4 : 2) ? below(lines + 1) : lines + 1;
-    if (one_in(40)) {
-        text.len = below(200);
-        random_bytes(bytes, text.len);
-        return text.len;
-    }
+    if (one_in(40))
+        return no_sheet(bytes);
     if (large || one_in(16))
         side = 40 - below(3);
     if (faulty <= lines && one_in(2))
-        faulty = lines;
+        faulty = one_in(3) ? 0 : lines;
     ended = put_side_line(&text, side, faulty == 0 ? random_line_faults() : 0);
     for (uint32_t k = 1; k <= lines && !ended; k++)
         ended = put_curve_line(&text, side, trivial, large, k == faulty ? random_line_faults() : 0);

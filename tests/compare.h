@@ -91,8 +91,8 @@ void meet(enum met what, int holds);
 /* The case that runs. */
 struct running {
     uint64_t seed, number;
-    int kind;
-    const char *name;
+    const char *name; /* of its kind */
+    struct counts *counts;
 };
 
 extern struct running running;

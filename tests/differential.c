@@ -6,6 +6,7 @@
 #include "reference.h"
 
 #include <inttypes.h>
+#include <signal.h>
 #include <stdio.h>
 #include <stdlib.h>
 #include <string.h>
@@ -15,10 +16,6 @@ static struct lent points = {"points", NULL, NULL, 0, 0}, grid = {"grid or list"
                    small = {"cell or channels", NULL, NULL, 0, 0}, input = {"input", NULL, NULL, 0, 0},
                    buffer = {"buffer", NULL, NULL, 0, 0}, detail = {"detail", NULL, NULL, 0, 0},
                    cube = {"cube", NULL, NULL, 0, 0}, text = {"text", NULL, NULL, 0, 0};
-
-enum { KINDS = 24 };
-
-static struct counts counted[KINDS];
 
 /* Curves and patches */
 
@@ -102,7 +99,7 @@ static int compare_object(struct object_call *c, int64_t *want) {
     c->points = points.got;
     c->lent = grid.got;
     got = library_object(c);
-    count_order(&counted[running.kind], &order);
+    count_order(running.counts, &order);
     if (*want >= 0)
         meet_accepted_object(c);
     else
@@ -195,7 +192,7 @@ static int to_cell_case(int wrong) {
     want = reference_to_cell(side, &s, small.want, small.len, &order);
     got = gidzkhalu_to_cell(side, s.kind, float_of(s.channel[0]), float_of(s.channel[1]), float_of(s.channel[2]),
                             small.got, small.len);
-    count_order(&counted[running.kind], &order);
+    count_order(running.counts, &order);
     meet_swatch(side, &s, want);
     if (want == got && same(&small))
         return 1;
@@ -231,7 +228,7 @@ static int half_way_case(int wrong) {
     got = gidzkhalu_half_way(a.kind, float_of(a.channel[0]), float_of(a.channel[1]), float_of(a.channel[2]), b.kind,
                              float_of(b.channel[0]), float_of(b.channel[1]), float_of(b.channel[2]), small.got,
                              small.len);
-    count_order(&counted[running.kind], &order);
+    count_order(running.counts, &order);
     if (want == 0)
         meet_half_way(&a, &b);
     if (want == got && same(&small))
@@ -262,7 +259,7 @@ static int sheet_case(int large, int wrong) {
     lend(&detail, small_length(1, wrong || one_in(40)));
     want = reference_draw_sheet(input.want, input.len, buffer.want, buffer.len, detail.want, detail.len, &order);
     got = gidzkhalu_draw_sheet(input.got, input.len, buffer.got, buffer.len, detail.got, detail.len);
-    count_order(&counted[running.kind], &order);
+    count_order(running.counts, &order);
     meet(SHEET_200, want == 200);
     meet(SHEET_SIDE_40, want >= 0 && detail.want[0] == 40);
     if (want == got && same(&input) && same(&buffer) && same(&detail))
@@ -329,7 +326,7 @@ static int compare_part(uint32_t side, size_t first, size_t count, size_t text_l
     lend(&text, text_len);
     want = reference_list_part(side, cube.want, cube.len, first, count, text.want, text.len, &order);
     *bytes = gidzkhalu_list_part(side, cube.got, cube.len, first, count, text.got, text.len);
-    count_order(&counted[running.kind], &order);
+    count_order(running.counts, &order);
     meet(PART_HEADING, want >= 0 && first == 0);
     meet(PART_PAST, want >= 0 && first >= cube.len);
     if (want == *bytes && same(&cube) && same(&text))
@@ -396,7 +393,7 @@ static int refusal_line(void) {
     lend(&text, one_in(4) ? 17 - (one_in(2) ? 0 : below(18)) : 18 + below(8));
     want = reference_refusal_line(number, line, text.want, text.len, &order);
     got = gidzkhalu_refusal_line(number, line, text.got, text.len);
-    count_order(&counted[running.kind], &order);
+    count_order(running.counts, &order);
     if (want == got && same(&text))
         return 1;
     print_failure(want, got);
@@ -454,18 +451,17 @@ static int print_list(const char *fault, int length, const uint8_t *start) {
     return 0;
 }
 
-/* Draws call k and, if it is accepted, checks the second sentence just after it. */
-static int call_holds(int k) {
+/* Draws call k; if it is accepted, the second sentence holds just after it. Answers what is wrong, or NULL. */
+static const char *fault_of_call(int k) {
     struct object_call c = calls[k];
     int64_t answer;
+    int agreed;
     lend_bytes(&points, call_points[k], c.points_len);
-    call_accepted[k] = 0;
-    if (!compare_object(&c, &answer))
-        return 0;
+    agreed = compare_object(&c, &answer);
     call_accepted[k] = answer >= 0;
-    if (answer < 0)
-        return 1;
-    return samples_hold(&samples, c.side, c.mark, grid.got);
+    if (answer >= 0 && !samples_hold(&samples, c.side, c.mark, grid.got))
+        return "demand 3's second sentence does not hold after the last call";
+    return agreed ? NULL : "the last call is not the reference's";
 }
 
 /* The first sentence, for the grid after the list. */
@@ -487,16 +483,18 @@ static int list_of_calls(void) {
     static uint8_t start[CELLS];
     uint32_t side = random_side();
     int length = (int)below(CALLS + 1), accepted = 0;
+    const char *fault;
     lend_cube(&grid, (size_t)side * side * side);
     memcpy(start, grid.got, grid.len);
     for (int k = 0; k < length; k++) {
         random_call(&calls[k], call_points[k], side);
-        if (!call_holds(k))
-            return print_list("demand 3's second sentence, or a call that is not the reference's", k + 1, start);
+        fault = fault_of_call(k);
+        if (fault != NULL)
+            return print_list(fault, k + 1, start);
         accepted += call_accepted[k];
     }
     meet(LIST_OF_THREE, accepted >= 3);
-    return list_holds(length, start) || print_list("demand 3's first sentence", length, start);
+    return list_holds(length, start) || print_list("demand 3's first sentence does not hold", length, start);
 }
 
 /* Document 01's samples: the reference and the library give what is written there */
@@ -567,27 +565,41 @@ static int known_swatch(uint32_t side, uint32_t bits, uint8_t coordinate) {
     return 1;
 }
 
-static int known_sheet(void) {
-    static const char sheet[] = "    4\n"
-                                "    7    3    0    0    0    1    0    0    2    0    0    3    0    0\n";
-    static const char listing[] = "    X    Y    Z MARK\n    0    0    0    7\n    1    0    0    7\n"
-                                  "    2    0    0    7\n    3    0    0    7\n";
-    static uint8_t drawn[64000], listed[21 * 65], side, line;
-    int64_t bytes;
-    if (gidzkhalu_draw_sheet((const uint8_t *)sheet, sizeof sheet - 1, drawn, sizeof drawn, &side, 1) != 1 || side != 4)
-        return known_failed("of a sheet");
-    bytes = gidzkhalu_list_part(4, drawn, 64, 0, 64, listed, sizeof listed);
-    if (bytes != sizeof listing - 1 || memcmp(listed, listing, sizeof listing - 1) != 0)
-        return known_failed("of a listing");
-    if (gidzkhalu_draw_sheet(drawn, 0, drawn, sizeof drawn, &line, 1) != -41 || line != 1 ||
-        gidzkhalu_refusal_line(41, line, listed, 18) != 18 || memcmp(listed, "REFUSED   41    1\n", 18) != 0)
-        return known_failed("of an empty input");
+/* What the sheet program prints, by the library and by the reference. */
+static int known_print(const char *sheet, const char *printed) {
+    struct order order = {0}, listed = {0};
+    int64_t want, got;
+    lend_bytes(&input, (const uint8_t *)sheet, strlen(sheet));
+    lend(&buffer, 64000);
+    lend(&detail, 1);
+    lend(&text, 21 * 65);
+    want = reference_draw_sheet(input.want, input.len, buffer.want, 64000, detail.want, 1, &order);
+    got = gidzkhalu_draw_sheet(input.got, input.len, buffer.got, 64000, detail.got, 1);
+    if (want != got || !same(&buffer) || !same(&detail))
+        return known_failed("of sheets");
+    if (want < 0) {
+        want = reference_refusal_line((uint32_t)-want, detail.want[0], text.want, text.len, &listed);
+        got = gidzkhalu_refusal_line((uint32_t)-got, detail.got[0], text.got, text.len);
+    } else {
+        want = reference_list_part(detail.want[0], buffer.want, 64, 0, 64, text.want, text.len, &listed);
+        got = gidzkhalu_list_part(detail.got[0], buffer.got, 64, 0, 64, text.got, text.len);
+    }
+    if (want != got || !same(&text) || want != (int64_t)strlen(printed) || memcmp(text.got, printed, (size_t)want) != 0)
+        return known_failed("of sheets");
     return 1;
 }
 
+static const char SHEET[] = "    4\n"
+                            "    7    3    0    0    0    1    0    0    2    0    0    3    0    0\n";
+static const char LISTING[] = "    X    Y    Z MARK\n"
+                              "    0    0    0    7\n"
+                              "    1    0    0    7\n"
+                              "    2    0    0    7\n"
+                              "    3    0    0    7\n";
+
 static int document_samples(void) {
-    int good = known_patch() & known_sheet() & known_swatch(2, 0x3F000000, 0) & known_swatch(3, 0x3E800000, 0) &
-               known_swatch(3, 0x3E800001, 1);
+    int good = known_patch() & known_print(SHEET, LISTING) & known_print("", "REFUSED   41    1\n");
+    good &= known_swatch(2, 0x3F000000, 0) & known_swatch(3, 0x3E800000, 0) & known_swatch(3, 0x3E800001, 1);
     for (uint32_t side = 2; side <= 64; side++)
         good &= known_swatch(side, 0x3F800000, (uint8_t)(side - 1));
     for (int k = 0; k < (int)(sizeof KNOWN / sizeof *KNOWN); k++)
@@ -628,10 +640,12 @@ static const struct kind {
             {"large sheet", 5000, large_sheet, {NULL, NULL}},
             {"large listing", 1000, large_listing, {NULL, NULL}}};
 
-enum { KIND_COUNT = sizeof KIND / sizeof *KIND };
+enum { KINDS = sizeof KIND / sizeof *KIND };
+
+static struct counts counted[KINDS];
 
 static int run_case(int kind, uint64_t number) {
-    running.kind = kind;
+    running.counts = &counted[kind];
     running.name = KIND[kind].name;
     running.number = number;
     start_case((uint64_t)kind, number);
@@ -703,21 +717,21 @@ static void print_pairs(int kind) {
 static int print_met(void) {
     int good = 1;
     printf("\nanswered > applied as well:");
-    for (int kind = 0; kind < KIND_COUNT; kind++)
+    for (int kind = 0; kind < KINDS; kind++)
         print_pairs(kind);
     printf("\n\nmet:\n");
     for (int k = 0; k < METS; k++)
         printf("%9" PRIu64 " %s\n", met[k], MET_WORDS[k]);
     for (int k = 0; k < METS; k++)
         good &= met[k] > 0;
-    for (int kind = 0; kind < KIND_COUNT; kind++)
+    for (int kind = 0; kind < KINDS; kind++)
         good &= order_met(kind, KIND[kind].order[0]) & order_met(kind, KIND[kind].order[1]);
     return good;
 }
 
 static void print_totals(void) {
     struct counts total = {{0}, {{0}}};
-    for (int kind = 0; kind < KIND_COUNT; kind++)
+    for (int kind = 0; kind < KINDS; kind++)
         for (int k = 0; k < NUMBERS; k++)
             total.answered[k] += counted[kind].answered[k];
     printf("all calls:");
@@ -726,31 +740,40 @@ static void print_totals(void) {
 
 static int run_all(double scale) {
     int failed = 0, all_met;
-    for (int kind = 0; kind < KIND_COUNT; kind++)
+    for (int kind = 0; kind < KINDS; kind++)
         failed += !run_kind(kind, scale);
     print_totals();
     all_met = print_met();
     if (failed > 0)
-        printf("%d kinds of %d failed\n", failed, KIND_COUNT);
+        printf("%d kinds of %d failed\n", failed, KINDS);
     else if (scale >= 1 && !all_met)
         printf("no difference, but not all was met\n");
     else
-        printf("%d kinds, no difference, seed %" PRIu64 "\n", KIND_COUNT, running.seed);
+        printf("%d kinds, no difference, seed %" PRIu64 "\n", KINDS, running.seed);
     return failed > 0 || (scale >= 1 && !all_met);
 }
 
 static int run_one(const char *name, uint64_t number) {
-    for (int kind = 0; kind < KIND_COUNT; kind++)
+    for (int kind = 0; kind < KINDS; kind++)
         if (strcmp(KIND[kind].name, name) == 0)
             return !run_case(kind, number);
     printf("no kind is named '%s'\n", name);
     return 2;
 }
 
+/* A call that does not come back: says which. */
+static void stopped(int number) {
+    printf("STOPPED by signal %d: %s, case %" PRIu64 ", seed %" PRIu64 "\n", number, running.name, running.number,
+           running.seed);
+    fflush(stdout);
+    _Exit(1);
+}
+
 int main(int argc, char **argv) {
     double scale = argc > 2 ? strtod(argv[2], NULL) : 1;
     running.seed = argc > 1 ? strtoull(argv[1], NULL, 10) : 1;
     start_run(running.seed);
+    signal(SIGSEGV, stopped);
     if (argc > 4)
         return run_one(argv[3], strtoull(argv[4], NULL, 10));
     return run_all(scale);
