@@ -555,13 +555,14 @@ static int known_patch(void) {
 static int known_swatch(uint32_t side, uint32_t bits, uint8_t coordinate) {
     struct order order = {0};
     struct swatch grey = {1, {bits, bits, bits}};
-    uint8_t want[3], got[3] = {99, 99, 99};
-    if (reference_to_cell(side, &grey, want, 3, &order) != 0 ||
-        gidzkhalu_to_cell(side, 1, float_of(bits), 0, 0, got, 3) != 0)
-        return known_failed("of swatches");
+    uint8_t want[3] = {99, 99, 99}, got[3] = {99, 99, 99};
+    int64_t answer = reference_to_cell(side, &grey, want, 3, &order);
+    answer |= gidzkhalu_to_cell(side, 1, float_of(bits), 0, 0, got, 3);
     for (int k = 0; k < 3; k++)
-        if (want[k] != coordinate || got[k] != coordinate)
+        if (answer != 0 || want[k] != coordinate || got[k] != coordinate) {
+            printf("  side %" PRIu32 ", grey %08" PRIX32 ": expected %d, came %d\n", side, bits, coordinate, got[k]);
             return known_failed("of swatches");
+        }
     return 1;
 }
 
@@ -584,9 +585,10 @@ static int known_print(const char *sheet, const char *printed) {
         want = reference_list_part(detail.want[0], buffer.want, 64, 0, 64, text.want, text.len, &listed);
         got = gidzkhalu_list_part(detail.got[0], buffer.got, 64, 0, 64, text.got, text.len);
     }
-    if (want != got || !same(&text) || want != (int64_t)strlen(printed) || memcmp(text.got, printed, (size_t)want) != 0)
-        return known_failed("of sheets");
-    return 1;
+    if (want == got && same(&text) && want == (int64_t)strlen(printed) && memcmp(text.got, printed, (size_t)want) == 0)
+        return 1;
+    printf("  expected\n%s  came\n%.*s", printed, got < 0 ? 0 : (int)got, (const char *)text.got);
+    return known_failed("of sheets");
 }
 
 static const char SHEET[] = "    4\n"
