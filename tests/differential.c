@@ -731,27 +731,35 @@ static int print_met(void) {
     return good;
 }
 
-static void print_totals(void) {
+/* Prints the answers of all kinds; answers the number of calls. */
+static uint64_t print_totals(void) {
     struct counts total = {{0}, {{0}}};
+    uint64_t calls_made = 0;
     for (int kind = 0; kind < KINDS; kind++)
-        for (int k = 0; k < NUMBERS; k++)
+        for (int k = 0; k < NUMBERS; k++) {
             total.answered[k] += counted[kind].answered[k];
-    printf("all calls:");
+            calls_made += counted[kind].answered[k];
+        }
+    printf("all kinds:");
     print_counts(&total);
+    return calls_made;
 }
 
 static int run_all(double scale) {
     int failed = 0, all_met;
+    uint64_t calls_made;
     for (int kind = 0; kind < KINDS; kind++)
         failed += !run_kind(kind, scale);
-    print_totals();
+    calls_made = print_totals();
     all_met = print_met();
+    printf("seed %" PRIu64 ", scale %g, %" PRIu64 " calls, %.0f s: ", running.seed, scale, calls_made,
+           (double)clock() / CLOCKS_PER_SEC);
     if (failed > 0)
         printf("%d kinds of %d failed\n", failed, KINDS);
     else if (scale >= 1 && !all_met)
         printf("no difference, but not all was met\n");
     else
-        printf("%d kinds, no difference, seed %" PRIu64 "\n", KINDS, running.seed);
+        printf("no difference in %d kinds\n", KINDS);
     return failed > 0 || (scale >= 1 && !all_met);
 }
 
