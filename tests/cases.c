@@ -474,7 +474,7 @@ static int put_line(struct text *text, uint8_t *line, uint32_t fields, unsigned 
     return 0;
 }
 
-/* Line 1; MARK stands for a bad side, 11 or 43. */
+/* Line 1, with a wrong length, a bad field or, for MARK, a side that is 11 or 43, or more than one of these. */
 static int put_side_line(struct text *text, uint32_t side, unsigned faults) {
     static const uint32_t bad[] = {0, 1, 41, 41, 42, 63, 64, 65, 66, 100, 258, 260, 296, 4098, 65540, 99999};
     uint8_t line[5];
@@ -580,7 +580,7 @@ size_t random_sheet(uint8_t *bytes, int large) {
         side = 40 - below(3);
     if (faulty <= lines && one_in(2))
         faulty = one_in(3) ? 0 : lines;
-    ended = put_side_line(&text, side, faulty == 0 ? random_line_faults() : 0);
+    ended = put_side_line(&text, side, faulty == 0 ? 1 + below(LENGTH + FIELD + MARK) : 0);
     for (uint32_t k = 1; k <= lines && !ended; k++)
         ended = put_curve_line(&text, side, trivial, large, k == faulty ? random_line_faults() : 0);
     if (one_in(12))
