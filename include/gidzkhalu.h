@@ -1,7 +1,8 @@
 /* The key box for C. Link with libexports.a, which `rt staticlib exports` writes to target/staticlib/.
 
    Every function answers one signed number: a count (0 or more), or minus the number of the first refusal that applies.
-   A refused call changes nothing that is lent to it. Nothing is kept between calls, and no heap is taken.
+   A refused call changes nothing that is lent to it, but for the line that a refused sheet writes into its detail.
+   Nothing is kept between calls, and no heap is taken.
 
    What the caller must keep: each pointer is valid for the length beside it (a pointer to any byte will do for the
    length 0), what is written is not also read or written elsewhere during the call, and the buffers of one call do not
