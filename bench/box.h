@@ -1,0 +1,67 @@
+/* The key box's interface, for the library and for the programs that it is compared with: the same functions under
+   four prefixes. */
+#ifndef BOX_H
+#define BOX_H
+
+#include <stddef.h>
+#include <stdint.h>
+
+/* A count, or minus a refusal's number. */
+typedef int32_t answer;
+
+typedef answer check_curve_fn(uint32_t side, const uint8_t *points, size_t points_len, uint32_t steps);
+typedef answer list_curve_fn(uint32_t side, const uint8_t *points, size_t points_len, uint32_t steps, uint8_t *list,
+                             size_t list_len);
+typedef answer draw_curve_fn(uint32_t side, const uint8_t *points, size_t points_len, uint32_t steps, uint8_t mark,
+                             uint8_t *grid, size_t grid_len);
+typedef answer check_patch_fn(uint32_t side, const uint8_t *points, size_t points_len, uint32_t n, uint32_t m);
+typedef answer draw_patch_fn(uint32_t side, const uint8_t *points, size_t points_len, uint32_t n, uint32_t m,
+                             uint8_t mark, uint8_t *grid, size_t grid_len);
+typedef answer to_cell_fn(uint32_t side, uint32_t kind, float a, float b, float c, uint8_t *cell, size_t cell_len);
+typedef answer half_way_fn(uint32_t kind, float a, float b, float c, uint32_t kind2, float a2, float b2, float c2,
+                           uint8_t *channels, size_t channels_len);
+typedef answer draw_sheet_fn(const uint8_t *input, size_t input_len, uint8_t *buffer, size_t buffer_len,
+                             uint8_t *detail, size_t detail_len);
+typedef answer list_part_fn(uint32_t side, const uint8_t *cube, size_t cube_len, size_t first, size_t count,
+                            uint8_t *text, size_t text_len);
+typedef answer refusal_line_fn(uint32_t number, uint32_t line, uint8_t *text, size_t text_len);
+
+struct box {
+    const char *prefix;
+    check_curve_fn *check_curve;
+    list_curve_fn *list_curve;
+    draw_curve_fn *draw_curve;
+    check_patch_fn *check_patch;
+    draw_patch_fn *draw_patch;
+    to_cell_fn *to_cell;
+    half_way_fn *half_way;
+    draw_sheet_fn *draw_sheet;
+    list_part_fn *list_part;
+    refusal_line_fn *refusal_line;
+};
+
+#define DECLARE_BOX(prefix)             \
+    check_curve_fn prefix##_check_curve;   \
+    list_curve_fn prefix##_list_curve;     \
+    draw_curve_fn prefix##_draw_curve;     \
+    check_patch_fn prefix##_check_patch;   \
+    draw_patch_fn prefix##_draw_patch;     \
+    to_cell_fn prefix##_to_cell;           \
+    half_way_fn prefix##_half_way;         \
+    draw_sheet_fn prefix##_draw_sheet;     \
+    list_part_fn prefix##_list_part;       \
+    refusal_line_fn prefix##_refusal_line
+
+#define BOX(prefix)                                                                                           \
+    {                                                                                                         \
+        #prefix, prefix##_check_curve, prefix##_list_curve, prefix##_draw_curve, prefix##_check_patch,        \
+            prefix##_draw_patch, prefix##_to_cell, prefix##_half_way, prefix##_draw_sheet, prefix##_list_part, \
+            prefix##_refusal_line                                                                             \
+    }
+
+DECLARE_BOX(gidzkhalu);
+DECLARE_BOX(same);
+DECLARE_BOX(direct);
+DECLARE_BOX(usual);
+
+#endif

@@ -1,0 +1,399 @@
+/* (a) The library's algorithm in C: integer forward differences of twice the value, a remainder from -N to N for each
+   axis, the step test on differences before the first write, the same refusals in the same order. */
+#include "box.h"
+#include "order.h"
+
+#include <math.h>
+#include <string.h>
+
+#if defined(__GNUC__)
+#define RARE(test) __builtin_expect(test, 0)
+#define APART __attribute__((noinline)) /* a loop of its own keeps its numbers in registers */
+#else
+#define RARE(test) (test)
+#define APART
+#endif
+
+/* A cubic along one parameter: its value and its forward differences. */
+struct cubic {
+    int64_t value, d1, d2, d3;
+};
+
+static inline int64_t cubed(int64_t n)
+{
+    return n * n * n;
+}
+
+/* Sample 0 of the cubic with control values q0 to q3 and n steps. */
+static inline struct cubic start(int64_t n, int64_t q0, int64_t q1, int64_t q2, int64_t q3)
+{
+    int64_t a3 = -q0 + 3 * q1 - 3 * q2 + q3;
+    int64_t a2 = 3 * q0 - 6 * q1 + 3 * q2;
+    int64_t a1 = -3 * q0 + 3 * q1;
+    struct cubic c = {n * n * n * q0, a3 + n * (a2 + n * a1), 6 * a3 + n * (2 * a2), 6 * a3};
+    return c;
+}
+
+/* The same through four coordinates of the points, gap bytes apart, doubled. */
+static inline struct cubic start_column(const uint8_t *points, int64_t n, size_t gap)
+{
+    return start(n, 2 * points[0], 2 * points[gap], 2 * points[2 * gap], 2 * points[3 * gap]);
+}
+
+static inline void next(struct cubic *c)
+{
+    c->value += c->d1;
+    c->d1 += c->d2;
+    c->d2 += c->d3;
+}
+
+static inline bool is_long(int64_t scale, int64_t d1)
+{
+    return RARE(d1 > 2 * scale || d1 < -2 * scale);
+}
+
+/* Some of the first n steps of the cubic is long. */
+static APART bool some_step_long(struct cubic c, uint32_t n, int64_t scale)
+{
+    for (; n > 0; n--) {
+        if (is_long(scale, c.d1))
+            return true;
+        next(&c);
+    }
+    return false;
+}
+
+/* Some of the first n values of a cubic of differences is long. */
+static APART bool some_value_long(struct cubic c, uint32_t n, int64_t scale)
+{
+    for (; n > 0; n--) {
+        if (is_long(scale, c.value))
+            return true;
+        next(&c);
+    }
+    return false;
+}
+
+/* The next sample on one axis of a walk: the differences, then the decision. The cubic's value is the remainder, -N
+   to N; a move takes the place one stride on or back. */
+static inline void step(struct cubic *c, int64_t scale, int64_t stride, int64_t *place)
+{
+    next(c);
+    if (c->value > scale) {
+        *place += stride;
+        c->value -= 2 * scale;
+    } else if (c->value < -scale) {
+        *place -= stride;
+        c->value += 2 * scale;
+    }
+}
+
+/* Marks the cells of a row: sample 0 and n steps. */
+static inline void mark_row(struct cubic x, struct cubic y, struct cubic z, int64_t place, uint32_t n, int64_t scale,
+                            int64_t side, uint8_t mark, uint8_t *grid)
+{
+    grid[place] = mark;
+    for (; n > 0; n--) {
+        step(&x, scale, 1, &place);
+        step(&y, scale, side, &place);
+        step(&z, scale, side * side, &place);
+        grid[place] = mark;
+    }
+}
+
+static inline int64_t first_place(const uint8_t *points, int64_t side)
+{
+    return points[0] + side * (points[1] + side * points[2]);
+}
+
+/* Curves. */
+
+static bool step_too_long(const uint8_t *points, uint32_t n)
+{
+    for (int a = 0; a < 3; a++)
+        if (some_step_long(start_column(points + a, n, 3), n, cubed(n)))
+            return true;
+    return false;
+}
+
+/* Sample 0 on one axis: no remainder. */
+static inline struct cubic start_walk(const uint8_t *points, uint32_t n)
+{
+    struct cubic c = start_column(points, n, 3);
+    c.value = 0;
+    return c;
+}
+
+static void mark_samples(uint32_t side, const uint8_t *points, uint32_t n, uint8_t mark, uint8_t *grid)
+{
+    mark_row(start_walk(points, n), start_walk(points + 1, n), start_walk(points + 2, n), first_place(points, side), n,
+             cubed(n), side, mark, grid);
+}
+
+static inline void put_cell(uint8_t *list, int64_t x, int64_t y, int64_t z)
+{
+    list[0] = (uint8_t)x;
+    list[1] = (uint8_t)y;
+    list[2] = (uint8_t)z;
+}
+
+static void list_samples(const uint8_t *points, uint32_t n, uint8_t *list)
+{
+    int64_t scale = cubed(n), x = points[0], y = points[1], z = points[2];
+    struct cubic cx = start_walk(points, n), cy = start_walk(points + 1, n), cz = start_walk(points + 2, n);
+    put_cell(list, x, y, z);
+    for (; n > 0; n--) {
+        step(&cx, scale, 1, &x);
+        step(&cy, scale, 1, &y);
+        step(&cz, scale, 1, &z);
+        list += 3;
+        put_cell(list, x, y, z);
+    }
+}
+
+answer same_check_curve(uint32_t side, const uint8_t *points, size_t points_len, uint32_t steps)
+{
+    if (points_len != 12)
+        return -51;
+    int refusal = order_of_list(side, points, 12, is_count_out(512, steps), false);
+    if (refusal != 0)
+        return -refusal;
+    return step_too_long(points, steps) ? -15 : 0;
+}
+
+answer same_list_curve(uint32_t side, const uint8_t *points, size_t points_len, uint32_t steps, uint8_t *list,
+                       size_t list_len)
+{
+    if (points_len != 12)
+        return -51;
+    int refusal =
+        order_of_list(side, points, 12, is_count_out(512, steps), is_curve_list_short(steps, list_len));
+    if (refusal != 0)
+        return -refusal;
+    if (step_too_long(points, steps))
+        return -15;
+    list_samples(points, steps, list);
+    return (answer)steps + 1;
+}
+
+answer same_draw_curve(uint32_t side, const uint8_t *points, size_t points_len, uint32_t steps, uint8_t mark,
+                       uint8_t *grid, size_t grid_len)
+{
+    if (points_len != 12)
+        return -51;
+    int refusal = order_of_drawing(side, points, 12, grid_len, mark, is_count_out(512, steps));
+    if (refusal != 0)
+        return -refusal;
+    if (step_too_long(points, steps))
+        return -15;
+    mark_samples(side, points, steps, mark, grid);
+    return (answer)steps + 1;
+}
+
+/* Patches. */
+
+/* One axis: cubics along u of the value at t = 0 and of its three differences along t. */
+struct surface {
+    struct cubic value, d1, d2, d3;
+};
+
+static struct surface start_surface(const uint8_t *points, int64_t n, int64_t m)
+{
+    struct cubic c0 = start_column(points, n, 12), c1 = start_column(points + 3, n, 12);
+    struct cubic c2 = start_column(points + 6, n, 12), c3 = start_column(points + 9, n, 12);
+    struct surface s = {
+        start(m, c0.value, c1.value, c2.value, c3.value),
+        start(m, c0.d1, c1.d1, c2.d1, c3.d1),
+        start(m, c0.d2, c1.d2, c2.d2, c3.d2),
+        start(m, c0.d3, c1.d3, c2.d3, c3.d3),
+    };
+    return s;
+}
+
+static inline void next_row(struct surface *s)
+{
+    next(&s->value);
+    next(&s->d1);
+    next(&s->d2);
+    next(&s->d3);
+}
+
+/* The cubic along t of the row, and that of the steps to the next row. */
+static inline struct cubic row(const struct surface *s)
+{
+    struct cubic c = {s->value.value, s->d1.value, s->d2.value, s->d3.value};
+    return c;
+}
+
+static inline struct cubic slope(const struct surface *s)
+{
+    struct cubic c = {s->value.d1, s->d1.d1, s->d2.d1, s->d3.d1};
+    return c;
+}
+
+static bool long_on_axis(const uint8_t *points, uint32_t n, uint32_t m)
+{
+    int64_t scale = cubed(n) * cubed(m);
+    struct surface s = start_surface(points, n, m);
+    for (uint32_t j = 0; j < m; j++) {
+        if (some_step_long(row(&s), n, scale) || some_value_long(slope(&s), n + 1, scale))
+            return true;
+        next_row(&s);
+    }
+    return some_step_long(row(&s), n, scale);
+}
+
+static bool patch_step_too_long(const uint8_t *points, uint32_t n, uint32_t m)
+{
+    return long_on_axis(points, n, m) || long_on_axis(points + 1, n, m) || long_on_axis(points + 2, n, m);
+}
+
+/* The next row of a drawing: the value's cubic is a walk along u, whose remainder goes into the row. */
+static inline void step_row(struct surface *s, int64_t scale, int64_t stride, int64_t *place)
+{
+    step(&s->value, scale, stride, place);
+    next(&s->d1);
+    next(&s->d2);
+    next(&s->d3);
+}
+
+static inline struct surface start_rows(const uint8_t *points, uint32_t n, uint32_t m)
+{
+    struct surface s = start_surface(points, n, m);
+    s.value.value = 0;
+    return s;
+}
+
+static void mark_rows(uint32_t side, const uint8_t *points, uint32_t n, uint32_t m, uint8_t mark, uint8_t *grid)
+{
+    int64_t h = side, scale = cubed(n) * cubed(m), place = first_place(points, h);
+    struct surface x = start_rows(points, n, m), y = start_rows(points + 1, n, m), z = start_rows(points + 2, n, m);
+    for (;; m--) {
+        mark_row(row(&x), row(&y), row(&z), place, n, scale, h, mark, grid);
+        if (m == 0)
+            return;
+        step_row(&x, scale, 1, &place);
+        step_row(&y, scale, h, &place);
+        step_row(&z, scale, h * h, &place);
+    }
+}
+
+answer same_check_patch(uint32_t side, const uint8_t *points, size_t points_len, uint32_t n, uint32_t m)
+{
+    if (points_len != 48)
+        return -51;
+    int refusal = order_of_list(side, points, 48, is_count_out(256, n) || is_count_out(256, m), false);
+    if (refusal != 0)
+        return -refusal;
+    return patch_step_too_long(points, n, m) ? -15 : 0;
+}
+
+answer same_draw_patch(uint32_t side, const uint8_t *points, size_t points_len, uint32_t n, uint32_t m, uint8_t mark,
+                       uint8_t *grid, size_t grid_len)
+{
+    if (points_len != 48)
+        return -51;
+    int refusal = order_of_drawing(side, points, 48, grid_len, mark, is_count_out(256, n) || is_count_out(256, m));
+    if (refusal != 0)
+        return -refusal;
+    if (patch_step_too_long(points, n, m))
+        return -15;
+    mark_rows(side, points, n, m, mark, grid);
+    return (answer)((n + 1) * (m + 1));
+}
+
+/* Swatches. */
+
+static inline bool in_range(float v)
+{
+    return 0.0f <= v && v <= 1.0f;
+}
+
+/* Of a channel out of range. */
+static inline int channel_refusal(float v)
+{
+    return isfinite(v) ? 32 : 31;
+}
+
+/* Of three channels: 0 if none applies. */
+static inline int refusal_of_three(float a, float b, float c)
+{
+    if (in_range(a) && in_range(b) && in_range(c))
+        return 0;
+    return channel_refusal(!in_range(a) ? a : !in_range(b) ? b : c);
+}
+
+/* With v's exponent x, v is mantissa / 2^(150 - x), and w / 2^(149 - x) is twice v × (side - 1): rounded up and halved,
+   a half goes down. w is below 2^30, so a shift of 31 serves for every longer one. */
+static inline uint8_t coordinate(uint32_t side, float v)
+{
+    uint32_t b;
+    memcpy(&b, &v, sizeof b);
+    uint32_t shift = 149 - (b >> 23 & 255), w = (0x800000 | (b & 0x7fffff)) * (side - 1);
+    return (uint8_t)((((w - 1) >> (shift < 31 ? shift : 31)) + 1) / 2);
+}
+
+answer same_to_cell(uint32_t side, uint32_t kind, float a, float b, float c, uint8_t *cell, size_t cell_len)
+{
+    if (kind > 1)
+        return -53;
+    if (cell_len != 3)
+        return -52;
+    if (!is_side(side))
+        return -11;
+    if (kind == 1) {
+        if (!in_range(a))
+            return -channel_refusal(a);
+        cell[0] = cell[1] = cell[2] = coordinate(side, a);
+        return 0;
+    }
+    int refusal = refusal_of_three(a, b, c);
+    if (refusal != 0)
+        return -refusal;
+    cell[0] = coordinate(side, a);
+    cell[1] = coordinate(side, b);
+    cell[2] = coordinate(side, c);
+    return 0;
+}
+
+answer same_half_way(uint32_t kind, float a, float b, float c, uint32_t kind2, float a2, float b2, float c2,
+                     uint8_t *channels, size_t channels_len)
+{
+    if (kind > 1 || kind2 > 1)
+        return -53;
+    if (channels_len != 12)
+        return -52;
+    if (kind == 1)
+        b = c = a;
+    if (kind2 == 1)
+        b2 = c2 = a2;
+    int refusal = refusal_of_three(a, b, c);
+    if (refusal == 0)
+        refusal = refusal_of_three(a2, b2, c2);
+    if (refusal != 0)
+        return -refusal;
+    float mixed[3] = {(a + a2) * 0.5f, (b + b2) * 0.5f, (c + c2) * 0.5f};
+    memcpy(channels, mixed, sizeof mixed); /* x86-64 has the low byte first */
+    return 0;
+}
+
+/* Sheets. */
+
+#include "sheet.h"
+
+answer same_draw_sheet(const uint8_t *input, size_t input_len, uint8_t *buffer, size_t buffer_len, uint8_t *detail,
+                       size_t detail_len)
+{
+    return draw_sheet(input, input_len, buffer, buffer_len, detail, detail_len);
+}
+
+answer same_list_part(uint32_t side, const uint8_t *cube, size_t cube_len, size_t first, size_t count, uint8_t *text,
+                      size_t text_len)
+{
+    return list_part(side, cube, cube_len, first, count, text, text_len);
+}
+
+answer same_refusal_line(uint32_t number, uint32_t line, uint8_t *text, size_t text_len)
+{
+    return refusal_line(number, line, text, text_len);
+}

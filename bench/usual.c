@@ -1,0 +1,231 @@
+/* (c) What is usually written instead: float evaluation of the Bernstein form and rounding, no step test; sscanf and
+   sprintf for sheets. Lengths, sides, counts and marks are tried, so that no write goes astray; the step test and the
+   order of refusals are left out. */
+#include "box.h"
+#include "order.h"
+
+#include <math.h>
+#include <stdio.h>
+#include <string.h>
+
+static inline float blend(float t, float g0, float g1, float g2, float g3)
+{
+    float k = 1.0f - t;
+    return k * k * k * g0 + 3.0f * t * k * k * g1 + 3.0f * t * t * k * g2 + t * t * t * g3;
+}
+
+/* Curves. */
+
+static inline size_t rounded(const uint8_t *points, float t)
+{
+    return (size_t)lroundf(blend(t, points[0], points[3], points[6], points[9]));
+}
+
+static void mark_samples(uint32_t side, const uint8_t *points, uint32_t n, uint8_t mark, uint8_t *grid)
+{
+    for (uint32_t i = 0; i <= n; i++) {
+        float t = (float)i / (float)n;
+        size_t x = rounded(points, t), y = rounded(points + 1, t), z = rounded(points + 2, t);
+        grid[x + side * (y + side * z)] = mark;
+    }
+}
+
+answer usual_check_curve(uint32_t side, const uint8_t *points, size_t points_len, uint32_t steps)
+{
+    if (points_len != 12)
+        return -51;
+    return -order_of_list(side, points, 12, is_count_out(512, steps), false);
+}
+
+answer usual_list_curve(uint32_t side, const uint8_t *points, size_t points_len, uint32_t steps, uint8_t *list,
+                        size_t list_len)
+{
+    if (points_len != 12)
+        return -51;
+    int refusal =
+        order_of_list(side, points, 12, is_count_out(512, steps), is_curve_list_short(steps, list_len));
+    if (refusal != 0)
+        return -refusal;
+    for (uint32_t i = 0; i <= steps; i++) {
+        float t = (float)i / (float)steps;
+        for (int a = 0; a < 3; a++)
+            *list++ = (uint8_t)rounded(points + a, t);
+    }
+    return (answer)steps + 1;
+}
+
+answer usual_draw_curve(uint32_t side, const uint8_t *points, size_t points_len, uint32_t steps, uint8_t mark,
+                        uint8_t *grid, size_t grid_len)
+{
+    if (points_len != 12)
+        return -51;
+    int refusal = order_of_drawing(side, points, 12, grid_len, mark, is_count_out(512, steps));
+    if (refusal != 0)
+        return -refusal;
+    mark_samples(side, points, steps, mark, grid);
+    return (answer)steps + 1;
+}
+
+/* Patches. */
+
+static inline void row_controls(const uint8_t *points, float u, float g[4])
+{
+    for (int i = 0; i < 4; i++)
+        g[i] = blend(u, points[12 * i], points[12 * i + 3], points[12 * i + 6], points[12 * i + 9]);
+}
+
+static inline size_t rounded_in_row(const float g[4], float t)
+{
+    return (size_t)lroundf(blend(t, g[0], g[1], g[2], g[3]));
+}
+
+answer usual_check_patch(uint32_t side, const uint8_t *points, size_t points_len, uint32_t n, uint32_t m)
+{
+    if (points_len != 48)
+        return -51;
+    return -order_of_list(side, points, 48, is_count_out(256, n) || is_count_out(256, m), false);
+}
+
+answer usual_draw_patch(uint32_t side, const uint8_t *points, size_t points_len, uint32_t n, uint32_t m, uint8_t mark,
+                        uint8_t *grid, size_t grid_len)
+{
+    if (points_len != 48)
+        return -51;
+    int refusal = order_of_drawing(side, points, 48, grid_len, mark, is_count_out(256, n) || is_count_out(256, m));
+    if (refusal != 0)
+        return -refusal;
+    for (uint32_t j = 0; j <= m; j++) {
+        float gx[4], gy[4], gz[4], u = (float)j / (float)m;
+        row_controls(points, u, gx);
+        row_controls(points + 1, u, gy);
+        row_controls(points + 2, u, gz);
+        for (uint32_t i = 0; i <= n; i++) {
+            float t = (float)i / (float)n;
+            size_t x = rounded_in_row(gx, t), y = rounded_in_row(gy, t), z = rounded_in_row(gz, t);
+            grid[x + side * (y + side * z)] = mark;
+        }
+    }
+    return (answer)((n + 1) * (m + 1));
+}
+
+/* Swatches. */
+
+static int refusal_of_three(float a, float b, float c)
+{
+    if (isnan(a) || isnan(b) || isnan(c))
+        return 31;
+    return a < 0 || b < 0 || c < 0 || a > 1 || b > 1 || c > 1 ? 32 : 0;
+}
+
+static inline uint8_t coordinate(uint32_t side, float v)
+{
+    return (uint8_t)(v * (float)(side - 1) + 0.5f);
+}
+
+answer usual_to_cell(uint32_t side, uint32_t kind, float a, float b, float c, uint8_t *cell, size_t cell_len)
+{
+    if (cell_len != 3)
+        return -52;
+    if (!is_side(side))
+        return -11;
+    if (kind == 1)
+        b = c = a;
+    int refusal = refusal_of_three(a, b, c);
+    if (refusal != 0)
+        return -refusal;
+    cell[0] = coordinate(side, a);
+    cell[1] = coordinate(side, b);
+    cell[2] = coordinate(side, c);
+    return 0;
+}
+
+static inline float mix(float a, float b)
+{
+    return a + (b - a) * 0.5f;
+}
+
+answer usual_half_way(uint32_t kind, float a, float b, float c, uint32_t kind2, float a2, float b2, float c2,
+                      uint8_t *channels, size_t channels_len)
+{
+    if (channels_len != 12)
+        return -52;
+    if (kind == 1)
+        b = c = a;
+    if (kind2 == 1)
+        b2 = c2 = a2;
+    int refusal = refusal_of_three(a, b, c);
+    if (refusal == 0)
+        refusal = refusal_of_three(a2, b2, c2);
+    if (refusal != 0)
+        return -refusal;
+    float mixed[3] = {mix(a, a2), mix(b, b2), mix(c, c2)};
+    memcpy(channels, mixed, sizeof mixed);
+    return 0;
+}
+
+/* Sheets. */
+
+/* Reads a line of 14 numbers; false if it has not as many, or some number is out of range. */
+static bool read_curve(const uint8_t *line, size_t len, uint32_t side, struct curve *curve)
+{
+    char text[72] = {0};
+    unsigned mark, p[12];
+    memcpy(text, line, len < 71 ? len : 71);
+    int fields = sscanf(text, "%u %u %u %u %u %u %u %u %u %u %u %u %u %u", &mark, &curve->steps, &p[0], &p[1], &p[2],
+                        &p[3], &p[4], &p[5], &p[6], &p[7], &p[8], &p[9], &p[10], &p[11]);
+    if (fields != 14 || mark < 1 || mark > 255 || is_count_out(512, curve->steps))
+        return false;
+    curve->mark = (uint8_t)mark;
+    for (int k = 0; k < 12; k++) {
+        if (p[k] >= side)
+            return false;
+        curve->points[k] = (uint8_t)p[k];
+    }
+    return true;
+}
+
+answer usual_draw_sheet(const uint8_t *input, size_t input_len, uint8_t *buffer, size_t buffer_len, uint8_t *detail,
+                        size_t detail_len)
+{
+    char text[7] = {0};
+    unsigned side;
+    if (detail_len != 1 || buffer_len != 64000)
+        return -21;
+    memcpy(text, input, input_len < 6 ? input_len : 6);
+    *detail = 1;
+    if (sscanf(text, "%u", &side) != 1 || side < 2 || side > 40)
+        return -42;
+    memset(buffer, 0, (size_t)side * side * side);
+    answer lines = 0;
+    for (size_t at = 6; at < input_len; at += 71, lines++) {
+        struct curve curve;
+        *detail = (uint8_t)(lines + 2);
+        if (!read_curve(input + at, input_len - at, side, &curve))
+            return -42;
+        mark_samples(side, curve.points, curve.steps, curve.mark, buffer);
+    }
+    *detail = (uint8_t)side;
+    return lines;
+}
+
+answer usual_list_part(uint32_t side, const uint8_t *cube, size_t cube_len, size_t first, size_t count, uint8_t *text,
+                       size_t text_len)
+{
+    char *at = (char *)text;
+    if (!is_side(side) || cube_len != (size_t)side * side * side || (text_len - 1) / 21 <= count)
+        return -22;
+    if (first == 0)
+        at += sprintf(at, "    X    Y    Z MARK\n");
+    for (size_t p = first; p < cube_len && p - first < count; p++)
+        if (cube[p] != 0)
+            at += sprintf(at, "%5u%5u%5u%5u\n", (unsigned)(p % side), (unsigned)(p / side % side),
+                          (unsigned)(p / side / side), (unsigned)cube[p]);
+    return (answer)(at - (char *)text);
+}
+
+answer usual_refusal_line(uint32_t number, uint32_t line, uint8_t *text, size_t text_len)
+{
+    if (text_len < 19)
+        return -22;
+    return sprintf((char *)text, "REFUSED%5u%5u\n", (unsigned)number, (unsigned)line);
+}
