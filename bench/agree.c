@@ -1,0 +1,442 @@
+/* The same call by library, (a) and (b), and by (c), with what it answers and leaves compared. */
+#include "agree.h"
+
+#include <stdio.h>
+#include <stdlib.h>
+#include <string.h>
+
+#include "box.h"
+#include "inputs.h"
+
+enum { ROOM = CELLS + 1 };
+
+static const struct box library = BOX(gidzkhalu), exact[] = {BOX(same), BOX(direct)};
+
+/* The arguments of the next call. */
+static struct {
+    uint32_t side, n, m, kind, kind2, number, line;
+    uint8_t points[49], mark;
+    size_t points_len, lent_len, cube_len, first, count, input_len, detail_len;
+    float a[6];
+    uint8_t input[SHEET_BYTES + 200], cube[CELLS];
+} in;
+
+/* What a lent buffer holds before a call, after the library's and after another's. */
+static uint8_t before[ROOM], expected[ROOM], after[ROOM];
+
+typedef answer call_fn(const struct box *box, uint8_t *lent);
+
+static answer call_check_curve(const struct box *box, uint8_t *lent)
+{
+    (void)lent;
+    return box->check_curve(in.side, in.points, in.points_len, in.n);
+}
+
+static answer call_list_curve(const struct box *box, uint8_t *lent)
+{
+    return box->list_curve(in.side, in.points, in.points_len, in.n, lent, in.lent_len);
+}
+
+static answer call_draw_curve(const struct box *box, uint8_t *lent)
+{
+    return box->draw_curve(in.side, in.points, in.points_len, in.n, in.mark, lent, in.lent_len);
+}
+
+static answer call_check_patch(const struct box *box, uint8_t *lent)
+{
+    (void)lent;
+    return box->check_patch(in.side, in.points, in.points_len, in.n, in.m);
+}
+
+static answer call_draw_patch(const struct box *box, uint8_t *lent)
+{
+    return box->draw_patch(in.side, in.points, in.points_len, in.n, in.m, in.mark, lent, in.lent_len);
+}
+
+static answer call_to_cell(const struct box *box, uint8_t *lent)
+{
+    return box->to_cell(in.side, in.kind, in.a[0], in.a[1], in.a[2], lent, in.lent_len);
+}
+
+static answer call_half_way(const struct box *box, uint8_t *lent)
+{
+    const float *a = in.a;
+    return box->half_way(in.kind, a[0], a[1], a[2], in.kind2, a[3], a[4], a[5], lent, in.lent_len);
+}
+
+/* The detail comes back in the answer's last three digits. */
+static answer call_draw_sheet(const struct box *box, uint8_t *lent)
+{
+    uint8_t detail = 255;
+    answer r = box->draw_sheet(in.input, in.input_len, lent, in.lent_len, &detail, in.detail_len);
+    return 1000 * r + detail;
+}
+
+static answer call_list_part(const struct box *box, uint8_t *lent)
+{
+    return box->list_part(in.side, in.cube, in.cube_len, in.first, in.count, lent, in.lent_len);
+}
+
+static answer call_refusal_line(const struct box *box, uint8_t *lent)
+{
+    return box->refusal_line(in.number, in.line, lent, in.lent_len);
+}
+
+/* One call by all, each on the same room bytes. */
+static void agree(const char *name, call_fn *call, size_t room)
+{
+    memcpy(expected, before, room);
+    answer want = call(&library, expected);
+    for (int k = 0; k < 2; k++) {
+        memcpy(after, before, room);
+        answer got = call(&exact[k], after);
+        if (got == want && memcmp(after, expected, room) == 0)
+            continue;
+        printf("%s: the library answers %lld, %s %lld; the bytes %s\n", name, (long long)want, exact[k].prefix,
+               (long long)got, memcmp(after, expected, room) ? "differ" : "agree");
+        exit(1);
+    }
+}
+
+/* The inputs. */
+
+static void take_curve(int k)
+{
+    in.side = SIDE;
+    in.n = STEPS;
+    in.mark = (uint8_t)(1 + k % 255);
+    in.points_len = 12;
+    memcpy(in.points, curves[k], 12);
+}
+
+static void take_patch(int set, int k)
+{
+    in.side = SIDE;
+    in.n = in.m = set == 0 ? 64 : 256;
+    in.mark = (uint8_t)(1 + k);
+    in.points_len = 48;
+    memcpy(in.points, patches[set][k], 48);
+}
+
+static void take_swatches(int set, size_t i, uint32_t kind)
+{
+    in.side = SIDE;
+    in.kind = in.kind2 = kind;
+    memcpy(in.a, channels[set][i], sizeof in.a);
+}
+
+static void take_sheet(int set, int k)
+{
+    in.input_len = SHEET_BYTES;
+    in.detail_len = 1;
+    in.lent_len = SHEET_CELLS;
+    memcpy(in.input, sheets[set][k], SHEET_BYTES);
+}
+
+static void agree_on_curve(int k)
+{
+    take_curve(k);
+    agree("check_curve", call_check_curve, 0);
+    in.lent_len = 3 * (STEPS + 1);
+    agree("list_curve", call_list_curve, in.lent_len + 1);
+    in.lent_len = CELLS;
+    agree("draw_curve", call_draw_curve, ROOM);
+}
+
+static void agree_on_patch(int set, int k)
+{
+    take_patch(set, k);
+    in.lent_len = CELLS;
+    agree("check_patch", call_check_patch, 0);
+    agree("draw_patch", call_draw_patch, ROOM);
+}
+
+static void agree_on_swatches(int set, size_t i, uint32_t kind)
+{
+    take_swatches(set, i, kind);
+    in.lent_len = 3;
+    agree("to_cell", call_to_cell, 4);
+    in.lent_len = 12;
+    agree("half_way", call_half_way, 13);
+}
+
+static void agree_on_sheet(int set, int k)
+{
+    take_sheet(set, k);
+    agree("draw_sheet", call_draw_sheet, SHEET_CELLS + 1);
+    in.side = SHEET_SIDE;
+    in.cube_len = SHEET_CELLS;
+    memcpy(in.cube, expected, SHEET_CELLS);
+    in.count = 8000;
+    in.lent_len = 21 * (in.count + 1);
+    for (in.first = 0; in.first < SHEET_CELLS; in.first += in.count)
+        agree("list_part", call_list_part, in.lent_len + 1);
+}
+
+static void fill_before(void)
+{
+    for (size_t i = 0; i < ROOM; i++)
+        before[i] = (uint8_t)random_bits();
+}
+
+void agree_on_inputs(void)
+{
+    fill_before();
+    for (int k = 0; k < CURVES; k++)
+        agree_on_curve(k);
+    for (int set = 0; set < 2; set++) {
+        for (int k = 0; k < PATCHES; k++)
+            agree_on_patch(set, k);
+        for (size_t i = 0; i < swatches; i++)
+            agree_on_swatches(set, i, i & 1);
+        for (int k = 0; k < SHEETS; k++)
+            agree_on_sheet(set, k);
+    }
+}
+
+/* Random calls, good and bad. */
+
+static int rarely(uint32_t times)
+{
+    return random_below(times) == 0;
+}
+
+static uint32_t some_side(void)
+{
+    if (rarely(20))
+        return rarely(2) ? random_below(2) : 65 + random_below(3);
+    return 2 + random_below(rarely(10) ? 63 : 20);
+}
+
+static uint32_t some_count(uint32_t most)
+{
+    if (rarely(20))
+        return rarely(2) ? 0 : most + 1 + random_below(3);
+    return 1 + random_below(rarely(4) ? most : 60);
+}
+
+/* The points of a record lie near one another, so that many are accepted with few steps. */
+static void some_record(int points, uint32_t most)
+{
+    in.side = some_side();
+    in.n = some_count(most);
+    in.m = some_count(most);
+    uint32_t side = in.side < 2 || in.side > 64 ? 8 : in.side;
+    random_points(in.points, points, side, 1 + random_below(side));
+    if (rarely(20))
+        in.points[random_below(3 * (uint32_t)points)] = (uint8_t)(side + random_below(3));
+    in.points_len = 3 * (size_t)points + (rarely(30) ? 1 : 0);
+    in.mark = (uint8_t)(rarely(20) ? 0 : 1 + random_below(255));
+    in.lent_len = (size_t)in.side * in.side * in.side;
+    if (in.lent_len > CELLS || rarely(30))
+        in.lent_len = 27 + random_below(2);
+}
+
+static void some_curve(void)
+{
+    some_record(4, 512);
+    agree("draw_curve", call_draw_curve, ROOM);
+    agree("check_curve", call_check_curve, 0);
+    in.lent_len = 3 * (size_t)in.n + random_below(4);
+    agree("list_curve", call_list_curve, 3 * 600);
+}
+
+static void some_patch(void)
+{
+    some_record(16, 256);
+    agree("draw_patch", call_draw_patch, ROOM);
+    agree("check_patch", call_check_patch, 0);
+}
+
+/* Any bits, an end, a channel of either set, or a float beside a half. */
+static float some_channel(uint32_t side)
+{
+    static const float ends[] = {0.0f, -0.0f, 1.0f, 0x1p-149f, 0x1p-126f, 0x1.fffffep-1f, 0x1.000002p0f, 0x1p-7f};
+    uint32_t way = random_below(16), bits = (uint32_t)random_bits();
+    float v = (float)(2 * random_below(side) + 1) / (float)(2 * (side - 1));
+    if (way == 0)
+        memcpy(&v, &bits, sizeof v);
+    if (way == 1)
+        v = ends[random_below(sizeof ends / sizeof *ends)];
+    if (2 <= way && way <= 8)
+        v = random_channel(way & 1);
+    if (way > 8) {
+        memcpy(&bits, &v, sizeof bits);
+        bits += random_below(3) - 1;
+        memcpy(&v, &bits, sizeof v);
+    }
+    return v;
+}
+
+static void some_swatches(void)
+{
+    in.side = some_side();
+    in.kind = random_below(rarely(20) ? 3 : 2);
+    in.kind2 = random_below(rarely(20) ? 3 : 2);
+    for (int i = 0; i < 6; i++)
+        in.a[i] = some_channel(in.side < 2 ? 2 : in.side);
+    in.lent_len = rarely(20) ? 2 + random_below(3) : 3;
+    agree("to_cell", call_to_cell, 16);
+    in.lent_len = rarely(20) ? 11 + random_below(3) : 12;
+    agree("half_way", call_half_way, 16);
+}
+
+/* A sheet, whole or with some bytes changed, cut or lengthened. */
+static void some_sheet(void)
+{
+    static const char often[] = "0123456789 \n\n-x";
+    static const char sides[][7] = {"   41\n", "   64\n", "   65\n", "    1\n", "   02\n", "   4 \n", "   39\n"};
+    random_sheet(in.input, rarely(2));
+    in.input_len = rarely(2) ? SHEET_BYTES : 6 + 71 * (size_t)random_below(SHEET_LINES);
+    if (rarely(5))
+        memcpy(in.input, sides[random_below(sizeof sides / sizeof *sides)], 6);
+    for (uint32_t k = random_below(4); k > 0; k--)
+        in.input[random_below((uint32_t)in.input_len)] = (uint8_t)often[random_below(sizeof often - 1)];
+    if (rarely(10))
+        in.input_len = rarely(2) ? in.input_len + 1 + random_below(100) : random_below((uint32_t)in.input_len + 1);
+    in.lent_len = rarely(30) ? SHEET_CELLS + 1 : SHEET_CELLS;
+    in.detail_len = rarely(30) ? 0 : 1;
+    agree("draw_sheet", call_draw_sheet, SHEET_CELLS + 1);
+}
+
+static void some_listing(void)
+{
+    uint32_t share = 1 + random_below(20);
+    in.side = some_side();
+    in.cube_len = (size_t)in.side * in.side * in.side;
+    if (in.cube_len > CELLS || rarely(30))
+        in.cube_len = 27 + random_below(2);
+    for (size_t i = 0; i < in.cube_len; i++)
+        in.cube[i] = random_below(20) < share ? (uint8_t)random_bits() : 0;
+    in.first = rarely(3) ? 0 : random_below((uint32_t)in.cube_len + 3);
+    in.count = random_below(12000);
+    in.lent_len = 21 * (in.count + 1) - (rarely(20) ? 1 : 0);
+    agree("list_part", call_list_part, ROOM);
+}
+
+static void some_refusal_line(void)
+{
+    in.number = rarely(2) ? random_below(60) : (uint32_t)random_bits();
+    in.line = rarely(2) ? random_below(203) : (uint32_t)random_bits();
+    in.lent_len = 17 + random_below(5);
+    agree("refusal_line", call_refusal_line, 32);
+}
+
+static void repeat(int times, void (*call)(void))
+{
+    for (int i = 0; i < times; i++)
+        call();
+}
+
+void agree_on_random_calls(void)
+{
+    seed(51);
+    fill_before();
+    repeat(4000, some_curve);
+    repeat(1000, some_patch);
+    repeat(1000000, some_swatches);
+    repeat(1000, some_sheet);
+    repeat(2000, some_listing);
+    repeat(10000, some_refusal_line);
+}
+
+/* The cells that (c) gets wrong. */
+
+static const struct box usual = BOX(usual);
+
+/* How many groups of so many bytes differ in the first len bytes. */
+static size_t wrong(size_t len, size_t group)
+{
+    size_t count = 0;
+    for (size_t i = 0; i < len; i += group)
+        count += memcmp(after + i, expected + i, group) != 0;
+    return count;
+}
+
+/* The call by library and (c), each on room bytes of 0. */
+static void both(call_fn *call, size_t room)
+{
+    memset(expected, 0, room);
+    memset(after, 0, room);
+    call(&library, expected);
+    call(&usual, after);
+}
+
+static void say_wrong(const char *what, size_t count, size_t of)
+{
+    printf("| %s | %zu | %zu |\n", what, count, of);
+}
+
+static void wrong_curves(void)
+{
+    size_t count = 0;
+    for (int k = 0; k < CURVES; k++) {
+        take_curve(k);
+        in.lent_len = 3 * (STEPS + 1);
+        both(call_list_curve, in.lent_len);
+        count += wrong(in.lent_len, 3);
+    }
+    say_wrong("curves, n = 512: cells of samples", count, CURVES * (STEPS + 1));
+}
+
+static size_t marked(size_t len)
+{
+    size_t count = 0;
+    for (size_t i = 0; i < len; i++)
+        count += expected[i] != 0;
+    return count;
+}
+
+static void wrong_patches(int set)
+{
+    size_t count = 0, of = 0;
+    for (int k = 0; k < PATCHES; k++) {
+        take_patch(set, k);
+        in.lent_len = CELLS;
+        both(call_draw_patch, CELLS);
+        count += wrong(CELLS, 1);
+        of += marked(CELLS);
+    }
+    say_wrong(set == 0 ? "patches, 64 × 64: cells marked or left" : "patches, 256 × 256: cells marked or left", count,
+              of);
+}
+
+static void wrong_swatches(int set)
+{
+    size_t count = 0, mixed = 0;
+    for (size_t i = 0; i < swatches; i++) {
+        take_swatches(set, i, 0);
+        in.lent_len = 3;
+        both(call_to_cell, 3);
+        count += wrong(3, 3);
+        in.lent_len = 12;
+        both(call_half_way, 12);
+        mixed += wrong(12, 12);
+    }
+    say_wrong(set == 0 ? "swatches, bright: cells" : "swatches, dark: cells", count, swatches);
+    say_wrong(set == 0 ? "swatches, bright: half-way" : "swatches, dark: half-way", mixed, swatches);
+}
+
+static void wrong_sheets(int set)
+{
+    size_t count = 0, of = 0;
+    for (int k = 0; k < SHEETS; k++) {
+        take_sheet(set, k);
+        both(call_draw_sheet, SHEET_CELLS);
+        count += wrong(SHEET_CELLS, 1);
+        of += marked(SHEET_CELLS);
+    }
+    say_wrong(set == 0 ? "sheets, sparse: cells marked or left" : "sheets, dense: cells marked or left", count, of);
+}
+
+void count_wrong_cells(void)
+{
+    printf("| (c) gets wrong | wrong | of |\n|---|---|---|\n");
+    wrong_curves();
+    wrong_patches(0);
+    wrong_patches(1);
+    wrong_swatches(0);
+    wrong_swatches(1);
+    wrong_sheets(0);
+    wrong_sheets(1);
+}

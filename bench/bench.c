@@ -1,0 +1,360 @@
+/* The library beside (a) same.c, (b) direct.c and (c) usual.c.
+
+     bench check             library, (a) and (b) give the same bytes; the cells that (c) gets wrong
+     bench times P N [R..]   N rounds of every row, or of the rows R..: a line with P, the row's number and the
+                             nanoseconds a unit of library, (a), (b) and (c)
+     bench table             the table made of such lines from standard input; P tells apart where code was placed
+     bench rows              for each row its number, name, unit and functions
+     bench count R K         one run of row R by box K (0 the library, 1 to 3 the others), for instructions to be
+                             counted from outside; prints its units */
+#define _POSIX_C_SOURCE 199309L
+#include <math.h>
+#include <stdio.h>
+#include <stdlib.h>
+#include <string.h>
+#include <time.h>
+
+#include "agree.h"
+#include "box.h"
+#include "inputs.h"
+
+enum { BOXES = 4, PLACES = 4, PARTS = 4, PART = SHEET_CELLS / PARTS, MOST = 1 << 15 };
+
+static const struct box boxes[BOXES] = {BOX(gidzkhalu), BOX(same), BOX(direct), BOX(usual)};
+
+static uint8_t grid[CELLS], list[3 * (STEPS + 1)], buffer[SHEET_CELLS], text[21 * (PART + 1) + 1];
+static uint8_t cubes[2][SHEETS][SHEET_CELLS];
+
+/* Three bytes or twelve for each swatch. */
+static uint8_t *out;
+
+/* The sum of answers, so that no call is left out. */
+static answer total;
+
+/* Each run answers how many units it did: samples, calls or sheets. */
+
+static size_t draw_curves(const struct box *box, int set)
+{
+    (void)set;
+    for (int k = 0; k < CURVES; k++)
+        total += box->draw_curve(SIDE, curves[k], 12, STEPS, 1, grid, CELLS);
+    return CURVES * (STEPS + 1);
+}
+
+static size_t list_curves(const struct box *box, int set)
+{
+    (void)set;
+    for (int k = 0; k < CURVES; k++)
+        total += box->list_curve(SIDE, curves[k], 12, STEPS, list, sizeof list);
+    return CURVES * (STEPS + 1);
+}
+
+static size_t check_curves(const struct box *box, int set)
+{
+    (void)set;
+    for (int k = 0; k < CURVES; k++)
+        total += box->check_curve(SIDE, curves[k], 12, STEPS);
+    return CURVES * (STEPS + 1);
+}
+
+/* Set 0 has 64 × 64 steps, set 1 256 × 256, and fewer patches are enough. */
+static size_t draw_patches(const struct box *box, int set)
+{
+    uint32_t n = set == 0 ? 64 : 256;
+    size_t count = set == 0 ? PATCHES : PATCHES / 4;
+    for (size_t k = 0; k < count; k++)
+        total += box->draw_patch(SIDE, patches[set][k], 48, n, n, 1, grid, CELLS);
+    return count * (n + 1) * (n + 1);
+}
+
+static size_t check_patches(const struct box *box, int set)
+{
+    uint32_t n = set == 0 ? 64 : 256;
+    size_t count = set == 0 ? PATCHES : PATCHES / 4;
+    for (size_t k = 0; k < count; k++)
+        total += box->check_patch(SIDE, patches[set][k], 48, n, n);
+    return count * (n + 1) * (n + 1);
+}
+
+static size_t cells_of(const struct box *box, int set, uint32_t kind)
+{
+    for (size_t i = 0; i < swatches; i++) {
+        const float *v = channels[set][i];
+        total += box->to_cell(SIDE, kind, v[0], v[1], v[2], out + 3 * i, 3);
+    }
+    return swatches;
+}
+
+static size_t color_cells(const struct box *box, int set)
+{
+    return cells_of(box, set, 0);
+}
+
+static size_t grey_cells(const struct box *box, int set)
+{
+    return cells_of(box, set, 1);
+}
+
+static size_t mixes_of(const struct box *box, int set, uint32_t kind)
+{
+    for (size_t i = 0; i < swatches; i++) {
+        const float *v = channels[set][i];
+        total += box->half_way(kind, v[0], v[1], v[2], kind, v[3], v[4], v[5], out + 12 * i, 12);
+    }
+    return swatches;
+}
+
+static size_t color_mixes(const struct box *box, int set)
+{
+    return mixes_of(box, set, 0);
+}
+
+static size_t grey_mixes(const struct box *box, int set)
+{
+    return mixes_of(box, set, 1);
+}
+
+static void list_cube(const struct box *box, const uint8_t *cube)
+{
+    for (size_t first = 0; first < SHEET_CELLS; first += PART)
+        total += box->list_part(SHEET_SIDE, cube, SHEET_CELLS, first, PART, text, sizeof text);
+}
+
+static size_t draw_sheets(const struct box *box, int set)
+{
+    uint8_t detail;
+    for (int k = 0; k < SHEETS; k++)
+        total += box->draw_sheet(sheets[set][k], SHEET_BYTES, buffer, sizeof buffer, &detail, 1);
+    return SHEETS;
+}
+
+static size_t list_sheets(const struct box *box, int set)
+{
+    for (int k = 0; k < SHEETS; k++)
+        list_cube(box, cubes[set][k]);
+    return SHEETS;
+}
+
+static size_t draw_and_list_sheets(const struct box *box, int set)
+{
+    uint8_t detail;
+    for (int k = 0; k < SHEETS; k++) {
+        total += box->draw_sheet(sheets[set][k], SHEET_BYTES, buffer, sizeof buffer, &detail, 1);
+        list_cube(box, buffer);
+    }
+    return SHEETS;
+}
+
+static const struct row {
+    const char *name, *unit, *functions;
+    size_t (*run)(const struct box *box, int set);
+    int set;
+    int boxes; /* 3 where (c) has nothing to compare */
+} rows[] = {
+    {"draw a curve, n = 512, side 64", "sample", "draw_curve", draw_curves, 0, 4},
+    {"list it", "sample", "list_curve", list_curves, 0, 4},
+    {"check it", "sample", "check_curve", check_curves, 0, 3},
+    {"draw a patch, 64 × 64, side 64", "sample", "draw_patch", draw_patches, 0, 4},
+    {"check it", "sample", "check_patch", check_patches, 0, 3},
+    {"draw a patch, 256 × 256, side 64", "sample", "draw_patch", draw_patches, 1, 4},
+    {"check it", "sample", "check_patch", check_patches, 1, 3},
+    {"swatch to cell, colour, bright", "call", "to_cell", color_cells, 0, 4},
+    {"swatch to cell, colour, dark", "call", "to_cell", color_cells, 1, 4},
+    {"swatch to cell, grey, bright", "call", "to_cell", grey_cells, 0, 4},
+    {"swatch to cell, grey, dark", "call", "to_cell", grey_cells, 1, 4},
+    {"half-way, colour, bright", "call", "half_way", color_mixes, 0, 4},
+    {"half-way, colour, dark", "call", "half_way", color_mixes, 1, 4},
+    {"half-way, grey, bright", "call", "half_way", grey_mixes, 0, 4},
+    {"half-way, grey, dark", "call", "half_way", grey_mixes, 1, 4},
+    {"sheet of 200 lines to listing, sparse", "sheet", "draw_sheet list_part", draw_and_list_sheets, 0, 4},
+    {"of it the drawing", "sheet", "draw_sheet", draw_sheets, 0, 4},
+    {"of it the listing", "sheet", "list_part", list_sheets, 0, 4},
+    {"sheet of 200 lines to listing, dense", "sheet", "draw_sheet list_part", draw_and_list_sheets, 1, 4},
+    {"of it the drawing", "sheet", "draw_sheet", draw_sheets, 1, 4},
+    {"of it the listing", "sheet", "list_part", list_sheets, 1, 4},
+};
+
+enum { ROWS = sizeof rows / sizeof *rows };
+
+static void make(size_t swatch_count)
+{
+    make_inputs(swatch_count);
+    out = calloc(swatch_count, 12);
+    if (!out)
+        exit(2);
+    for (int set = 0; set < 2; set++)
+        for (int k = 0; k < SHEETS; k++) {
+            uint8_t detail;
+            direct_draw_sheet(sheets[set][k], SHEET_BYTES, cubes[set][k], SHEET_CELLS, &detail, 1);
+        }
+}
+
+/* Processor time, which leaves out what other programs take. */
+static double nanoseconds(void)
+{
+    struct timespec t;
+    clock_gettime(CLOCK_PROCESS_CPUTIME_ID, &t);
+    return 1e9 * (double)t.tv_sec + (double)t.tv_nsec;
+}
+
+/* One round: all boxes one after the other, in an order drawn anew. */
+static void time_round(const struct row *row, double times[BOXES])
+{
+    int order[BOXES] = {0, 1, 2, 3};
+    for (int k = 0; k < BOXES; k++) {
+        int other = k + (int)random_below((uint32_t)(BOXES - k)), box = order[other];
+        order[other] = order[k];
+        double begin = nanoseconds();
+        size_t units = row->run(&boxes[box], row->set);
+        times[box] = (nanoseconds() - begin) / (double)units;
+    }
+}
+
+static void time_row(const struct row *row, const char *place, int rounds)
+{
+    double times[BOXES];
+    time_round(row, times);
+    while (rounds-- > 0) {
+        time_round(row, times);
+        printf("%s %d %.4f %.4f %.4f %.4f\n", place, (int)(row - rows), times[0], times[1], times[2], times[3]);
+    }
+}
+
+static const struct row *row_of(const char *number)
+{
+    int i = atoi(number);
+    if (i < 0 || i >= ROWS)
+        exit(2);
+    return &rows[i];
+}
+
+/* The order of a round must not depend on the place alone. */
+static void times(const char *place, int rounds, char **numbers)
+{
+    make(1000000);
+    seed((uint64_t)time(NULL));
+    if (!*numbers)
+        for (int i = 0; i < ROWS; i++)
+            time_row(&rows[i], place, rounds);
+    for (; *numbers; numbers++)
+        time_row(row_of(*numbers), place, rounds);
+}
+
+static struct line {
+    int place, row;
+    double times[BOXES];
+} lines[MOST];
+
+static int read_lines(void)
+{
+    int n = 0;
+    struct line l;
+    double *t = l.times;
+    while (n < MOST && scanf("%d %d %lf %lf %lf %lf", &l.place, &l.row, &t[0], &t[1], &t[2], &t[3]) == 6)
+        lines[n++] = l;
+    return n;
+}
+
+static int by_size(const void *a, const void *b)
+{
+    double x = *(const double *)a, y = *(const double *)b;
+    return x < y ? -1 : x > y;
+}
+
+/* The median of a row's library times over those of a box, or of its library times alone for box 0, at a place, or at
+   all for -1; 0 if there is no line. */
+static double median(int count, int row, int place, int box)
+{
+    static double values[MOST];
+    size_t n = 0;
+    for (int i = 0; i < count; i++) {
+        const struct line *l = &lines[i];
+        if (l->row == row && (place < 0 || l->place == place))
+            values[n++] = box == 0 ? l->times[0] : l->times[0] / l->times[box];
+    }
+    qsort(values, n, sizeof *values, by_size);
+    return n == 0 ? 0 : values[n / 2];
+}
+
+/* The geometric mean of the places' medians; for (a) the least and the greatest too. */
+static void print_ratio(int count, int row, int box)
+{
+    double logs = 0, least = 1e9, most = 0;
+    int places = 0;
+    for (int p = 0; p < PLACES; p++) {
+        double m = median(count, row, p, box);
+        if (m == 0)
+            continue;
+        places++;
+        logs += log(m);
+        least = m < least ? m : least;
+        most = m > most ? m : most;
+    }
+    printf(" %.2f |", exp(logs / places));
+    if (box == 1)
+        printf(" %.2f to %.2f |", least, most);
+}
+
+static void table(void)
+{
+    int count = read_lines();
+    printf("| call | library, ns | / (a) | by place | / (b) | / (c) |\n|---|---|---|---|---|---|\n");
+    for (int row = 0; row < ROWS; row++) {
+        double own = median(count, row, -1, 0);
+        if (own == 0)
+            continue;
+        printf("| %s | %.*f a %s |", rows[row].name, own < 1000 ? 2 : 0, own, rows[row].unit);
+        for (int k = 1; k < rows[row].boxes; k++)
+            print_ratio(count, row, k);
+        printf("%s\n", rows[row].boxes == 3 ? " none |" : "");
+    }
+}
+
+static void print_marked(void)
+{
+    for (int set = 0; set < 2; set++) {
+        size_t marked = 0;
+        for (int k = 0; k < SHEETS; k++)
+            for (int i = 0; i < SHEET_CELLS; i++)
+                marked += cubes[set][k][i] != 0;
+        printf("A %s sheet marks %zu of %d cells.\n", set == 0 ? "sparse" : "dense", marked / SHEETS, SHEET_CELLS);
+    }
+}
+
+static void check(void)
+{
+    make(1000000);
+    agree_on_inputs();
+    agree_on_random_calls();
+    printf("Library, (a) and (b) gave the same answers and bytes on the inputs and on random calls, good and bad.\n");
+    print_marked();
+    printf("\n");
+    count_wrong_cells();
+}
+
+static void count(const struct row *row, int box)
+{
+    if (box < 0 || box >= BOXES)
+        exit(2);
+    make(10000);
+    printf("%zu\n", row->run(&boxes[box], row->set));
+}
+
+int main(int argc, char **argv)
+{
+    const char *mode = argc > 1 ? argv[1] : "";
+    if (strcmp(mode, "check") == 0)
+        check();
+    else if (strcmp(mode, "times") == 0 && argc > 3)
+        times(argv[2], atoi(argv[3]), argv + 4);
+    else if (strcmp(mode, "table") == 0)
+        table();
+    else if (strcmp(mode, "rows") == 0)
+        for (int i = 0; i < ROWS; i++)
+            printf("%d|%s|%s|%s\n", i, rows[i].name, rows[i].unit, rows[i].functions);
+    else if (strcmp(mode, "count") == 0 && argc == 4)
+        count(row_of(argv[2]), atoi(argv[3]));
+    else
+        return 2;
+    return total == -1;
+}

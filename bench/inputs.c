@@ -1,0 +1,119 @@
+/* Inputs from a generator with a fixed seed. */
+#include "inputs.h"
+
+#include <stdio.h>
+#include <stdlib.h>
+#include <string.h>
+
+uint8_t curves[CURVES][12], patches[2][PATCHES][48], sheets[2][SHEETS][SHEET_BYTES];
+float (*channels[2])[6];
+size_t swatches;
+
+static uint64_t state;
+
+void seed(uint64_t s)
+{
+    state = s;
+}
+
+/* Splitmix64. */
+uint64_t random_bits(void)
+{
+    uint64_t z = state += 0x9e3779b97f4a7c15u;
+    z = (z ^ z >> 30) * 0xbf58476d1ce4e5b9u;
+    z = (z ^ z >> 27) * 0x94d049bb133111ebu;
+    return z ^ z >> 31;
+}
+
+uint32_t random_below(uint32_t n)
+{
+    return (uint32_t)((random_bits() >> 32) * n >> 32);
+}
+
+void random_points(uint8_t *points, int count, uint32_t side, uint32_t width)
+{
+    for (int a = 0; a < 3; a++) {
+        uint32_t low = random_below(side - width + 1);
+        for (int i = 0; i < count; i++)
+            points[3 * i + a] = (uint8_t)(low + random_below(width));
+    }
+}
+
+static int between(int least, int most)
+{
+    return least + (int)random_below((uint32_t)(most - least + 1));
+}
+
+static uint8_t clamped(int v)
+{
+    return (uint8_t)(v < 0 ? 0 : v >= SIDE ? SIDE - 1 : v);
+}
+
+/* A plane through the middle of the cube, with each point moved a little. Neighbouring points differ by at most most
+   on each axis, so that 3 × most steps are enough. */
+static void random_patch(uint8_t points[48], int most)
+{
+    int bend = most / 4, slope = most - 2 * bend;
+    for (int a = 0; a < 3; a++) {
+        int t = between(-slope, slope), u = between(-slope, slope);
+        int origin = SIDE / 2 - 3 * (t + u) / 2;
+        for (int i = 0; i < 4; i++)
+            for (int j = 0; j < 4; j++)
+                points[3 * (4 * i + j) + a] = clamped(origin + t * i + u * j + between(-bend, bend));
+    }
+}
+
+float random_channel(int dark)
+{
+    float v = (float)((double)(random_bits() >> 11) * 0x1p-53);
+    return dark && random_below(10) != 0 ? v * 0x1p-7f : v;
+}
+
+static char *put_field(char *text, uint32_t v)
+{
+    return text + sprintf(text, "%5u", (unsigned)v);
+}
+
+void random_sheet(uint8_t sheet[SHEET_BYTES], int dense)
+{
+    char text[SHEET_BYTES + 1], *at = put_field(text, SHEET_SIDE);
+    *at++ = '\n';
+    for (int k = 0; k < SHEET_LINES; k++) {
+        uint32_t width = dense ? SHEET_SIDE : 3 + random_below(8);
+        uint32_t enough = 3 * (width - 1), more = random_below(dense ? STEPS - enough + 1 : 10);
+        uint8_t points[12];
+        random_points(points, 4, SHEET_SIDE, width);
+        at = put_field(put_field(at, 1 + random_below(255)), enough + more);
+        for (int i = 0; i < 12; i++)
+            at = put_field(at, points[i]);
+        *at++ = '\n';
+    }
+    memcpy(sheet, text, SHEET_BYTES);
+}
+
+static void make_channels(int dark)
+{
+    channels[dark] = malloc(swatches * sizeof *channels[dark]);
+    if (!channels[dark])
+        exit(2);
+    for (size_t i = 0; i < swatches; i++)
+        for (int c = 0; c < 6; c++)
+            channels[dark][i][c] = random_channel(dark);
+}
+
+void make_inputs(size_t swatch_count)
+{
+    swatches = swatch_count;
+    seed(2024);
+    for (int k = 0; k < CURVES; k++)
+        random_points(curves[k], 4, SIDE, 8 + random_below(SIDE - 7));
+    for (int k = 0; k < PATCHES; k++) {
+        random_patch(patches[0][k], 64 / 3);
+        random_patch(patches[1][k], 60);
+    }
+    for (int set = 0; set < 2; set++) {
+        make_channels(set);
+        for (int k = 0; k < SHEETS; k++)
+            random_sheet(sheets[set][k], set);
+    }
+}
