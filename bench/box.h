@@ -7,7 +7,7 @@
 #include <stdint.h>
 
 /* A count, or minus a refusal's number. */
-typedef int32_t answer;
+typedef int64_t answer;
 
 typedef answer check_curve_fn(uint32_t side, const uint8_t *points, size_t points_len, uint32_t steps);
 typedef answer list_curve_fn(uint32_t side, const uint8_t *points, size_t points_len, uint32_t steps, uint8_t *list,

@@ -15,7 +15,9 @@ places='0 1 2 3'
 mkdir -p $out
 
 build() {
-    if [ -z "${LIB:-}" ]; then rt staticlib exports >$out/staticlib.log || { tail -n 5 $out/staticlib.log; exit 1; }; fi
+    if [ -z "${LIB:-}" ]; then rt staticlib exports >$out/staticlib.log 2>&1 || { tail -n 5 $out/staticlib.log; exit 1; }; fi
+    # The library's header, where there is one, must declare what bench/box.h declares.
+    if [ -f include/gidzkhalu.h ]; then $cc -std=c99 -fsyntax-only -include include/gidzkhalu.h -x c bench/box.h; fi
     for name in same direct usual inputs agree bench; do
         # shellcheck disable=SC2086
         $cc -std=c99 -Wall -Wextra $flags -c bench/$name.c -o $out/$name.o
