@@ -16,8 +16,8 @@ mkdir -p $out
 
 build() {
     if [ -z "${LIB:-}" ]; then rt staticlib exports >$out/staticlib.log 2>&1 || { tail -n 5 $out/staticlib.log; exit 1; }; fi
-    # The library's header, where there is one, must declare what bench/box.h declares.
-    if [ -f include/gidzkhalu.h ]; then $cc -std=c99 -fsyntax-only -include include/gidzkhalu.h -x c bench/box.h; fi
+    # The library's header must declare what bench/box.h declares.
+    $cc -std=c99 -fsyntax-only -include include/gidzkhalu.h -x c bench/box.h
     for name in same direct usual inputs agree bench; do
         # shellcheck disable=SC2086
         $cc -std=c99 -Wall -Wextra $flags -c bench/$name.c -o $out/$name.o
@@ -57,13 +57,14 @@ collected() { # PREFIX BOX ROW FUNCTIONS
 }
 
 count() {
-    echo '| call | library | (a) | ratio |'
+    echo '| instructions | library | (a) | ratio |'
     echo '|---|---|---|---|'
     $out/bench.0 rows | while IFS='|' read -r row name unit functions; do
         own=$(collected gidzkhalu 0 "$row" "$functions")
         same=$(collected same 1 "$row" "$functions")
         awk -v name="$name" -v unit="$unit" -v own="$own" -v same="$same" -v units="$(cat $out/units)" 'BEGIN {
-            printf "| %s | %.1f a %s | %.1f | %.2f |\n", name, own / units, unit, same / units, own / same }'
+            form = own / units < 1000 ? "| %s | %.1f a %s | %.1f | %.2f |\n" : "| %s | %.0f a %s | %.0f | %.2f |\n"
+            printf form, name, own / units, unit, same / units, own / same }'
     done
 }
 
