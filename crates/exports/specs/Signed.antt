@@ -18,7 +18,3 @@ signed (refused k) n = minus k
 -- 51, before all else: a record of another length.
 abbrev pub ofLength : (size : ℕ) (bytes : List ℕ) → Verdict → Verdict
 ofLength size r v = orElse (firstThat (51 when not (eqb (length r) size) ∷ [])) v
-
--- 52, before all but 51 and 53: an out-buffer of another length.
-abbrev pub intoLength : (size : ℕ) (out : List ℕ) → Verdict → Verdict
-intoLength size out v = orElse (firstThat (52 when not (eqb (length out) size) ∷ [])) v

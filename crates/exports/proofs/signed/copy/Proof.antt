@@ -45,7 +45,7 @@ loop-again c =
     let h = c .before .loop-test .taken in (
       rw length-set (l .loop .inv .0),
       rw length-set (omega (arith, h)),
-      one-more (l .before .args .from .now) (l .loop .to) (l .loop .i) h (omega (arith, l .before .pre, l .loop .inv .0, h)) (l .loop .inv .2),
+      one-more (l .before .args .from .now) (l .loop .to) (l .loop .i) (omega (arith, h)) (omega (arith, l .before .pre, l .loop .inv .0, h)) (l .loop .inv .2),
     )
 
 same-length : tie.Need-same-length Inv-loop μ-loop

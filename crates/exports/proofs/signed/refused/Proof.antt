@@ -16,7 +16,9 @@ small : (c : tie.After-count) → c .before .args .number ≤ 4294967295
 small c = omega (arith, c .before .fits .number)
 
 sub-result : tie.Need-sub-result
-sub-result c = sub-fits (literal 0) (natural-held (c .count .ensures) (small c) (lit< tt)) (lit< tt)
+sub-result c =
+    let h = natural-held (c .count .ensures) (small c) (lit< tt) in
+    search (sub-fits (literal 0) h (lit< tt), sub-fits h (literal 0) (lit< tt))
 
 returns : tie.Need-returns
 returns c =
