@@ -10,12 +10,13 @@ use lib.Dec.{T}
 use lib.Ieee.{Float, nan, inf, fin, up, down, lt}
 use lib.Ieee.Fits.{up-pos}
 use lib.Ieee.Scale.{finite}
-use Rattle.decide.specs.Refusal.{_when_, firstThat, orElse, accepted}
+use Rattle.decide.specs.Refusal.{Verdict, _when_, firstThat, orElse, accepted, refused}
 use Rattle.decide.proofs.Truth.{both, both-false}
 use Rattle.decide.proofs.Refusal.{first-passes, first-empty, accepted-passes, first-append, accepted-append}
 use Rattle.swatch.specs.declared.Rgb.{Rgb}
 use Rattle.swatch.specs.Channel.{zero32, one32, inRange, infiniteOrNan, outside, channelRefusals}
 use Rattle.swatch.specs.declared.Swatch.{Swatch}
+use Rattle.swatch.specs.declared.Swatch.the-variants.{Grey}
 use Rattle.swatch.specs.Swatch.{channelsOf, rgbRefusals, swatchRefusals, AllInRange}
 use Rattle.swatch.proofs.Order.{zero-size, size-zero, range-of, range-nonneg, range-le-one}
 
@@ -88,6 +89,14 @@ rgb-first c =
     first-append (channelRefusals (c .red)) (channelRefusals (c .green) ++ channelRefusals (c .blue))
     ∙ ap (orElse (firstThat (channelRefusals (c .red))))
     (first-append (channelRefusals (c .green)) (channelRefusals (c .blue)))
+
+-- The number of a grey is that of its one channel.
+pub grey-first : (g : Float) → firstThat (swatchRefusals (Grey g)) ≡ firstThat (channelRefusals g)
+grey-first g = rgb-first (channelsOf (Grey g)) ∙ go (firstThat (channelRefusals g))
+  where
+    go : (r : Verdict) → orElse r (orElse r r) ≡ r
+    go accepted = refl
+    go (refused n) = refl
 
 -- Three channels from 0 to 1 have no refusal.
 pub rgb-accepted : (c : Rgb) → (inRange (c .red) && inRange (c .green) && inRange (c .blue)) ≡ true

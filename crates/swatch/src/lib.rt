@@ -6,7 +6,7 @@ ghost use mathlib.Core.Bool.{false, _&&_};
 ghost use Prim.Native.Nat.{_≤_};
 ghost use Rattle.decide.specs.Refusal.{firstThat, refused};
 ghost use Rattle.swatch.specs.Verdict.{verdictOf};
-ghost use Rattle.swatch.specs.Channel.{inRange};
+ghost use Rattle.swatch.specs.Channel.{inRange, channelRefusals};
 ghost use Rattle.swatch.specs.Swatch.{channelsOf, rgbRefusals, swatchRefusals, AllInRange};
 ghost use Rattle.swatch.specs.ToCell.{IsCell, CellSays};
 ghost use Rattle.swatch.specs.HalfWay.{IsHalfWay, HalfWaySays};
@@ -58,7 +58,7 @@ pub fn to_cell(side: u32, swatch: Swatch) -> CellAnswer
     }
     match swatch_verdict(swatch) {
         Verdict::Refused(n) => CellAnswer::Refused(n),
-        Verdict::Accepted => CellAnswer::Found(rgb_cell(side, channels(swatch))),
+        Verdict::Accepted => CellAnswer::Found(swatch_cell(side, swatch)),
     }
 }
 
@@ -89,15 +89,34 @@ fn channels(swatch: Swatch) -> Rgb
     }
 }
 
-// The first refusal of a swatch. No number is worked out for accepted channels.
+// The first refusal of a swatch. A grey's one channel is tried once.
 fn swatch_verdict(swatch: Swatch) -> Verdict
     ensures { λ r. ⌜ verdictOf r ≡ firstThat (swatchRefusals swatch) ⌝ }
 {
-    let c = channels(swatch);
+    match swatch {
+        Swatch::Color(c) => rgb_verdict(c),
+        Swatch::Grey(g) => channel_verdict(g),
+    }
+}
+
+// The first refusal of three channels. No number is worked out for accepted ones.
+fn rgb_verdict(c: Rgb) -> Verdict
+    ensures { λ r. ⌜ verdictOf r ≡ firstThat (rgbRefusals c) ⌝ }
+{
     if rgb_accepted(c) {
         return Verdict::Accepted;
     }
     Verdict::Refused(rgb_number(c))
+}
+
+// The first refusal of one channel.
+fn channel_verdict(v: f32) -> Verdict
+    ensures { λ r. ⌜ verdictOf r ≡ firstThat (channelRefusals v) ⌝ }
+{
+    if channel::is_accepted(v) {
+        return Verdict::Accepted;
+    }
+    Verdict::Refused(channel::number(v))
 }
 
 // Whether three channels are accepted.
@@ -119,6 +138,21 @@ fn rgb_number(c: Rgb) -> u32
         return channel::number(c.green);
     }
     channel::number(c.blue)
+}
+
+// The cell of an accepted swatch. A grey's one coordinate is worked out once.
+fn swatch_cell(side: u32, swatch: Swatch) -> Cell
+    requires { ⌜ (2 ≤ side) × (side ≤ 64) ⌝ }
+    requires { ⌜ AllInRange (channelsOf swatch) ⌝ }
+    ensures { λ r. ⌜ IsCell side (channelsOf swatch) r ⌝ }
+{
+    match swatch {
+        Swatch::Color(c) => rgb_cell(side, c),
+        Swatch::Grey(g) => {
+            let v = channel::coordinate(side, g);
+            Cell { x: v, y: v, z: v }
+        }
+    }
 }
 
 // The cell of three accepted channels.

@@ -1,29 +1,40 @@
--- `swatch_verdict` meets its contract: three accepted channels have no refusal, and others the first one's.
-use mathlib.Core.Path.{sym, _∙_}
+-- `swatch_verdict` meets its contract: a colour has its channels' refusals, and a grey those of its one channel.
+use mathlib.Core.Path.{sym, ap, _∙_}
 use borrow.Author.Needs.{needs}
-use Rattle.swatch.proofs.Range.{rgb-accepted}
+use Rattle.decide.specs.Refusal.{firstThat}
+use Rattle.swatch.specs.Swatch.{swatchRefusals}
+use Rattle.swatch.proofs.Range.{grey-first}
 use Rattle.swatch.proofs.swatch_verdict.Statement.{statement}
 use Rattle.swatch.proofs.swatch_verdict.Tie as tie
 
 returns : tie.Need-returns
 returns c =
-    let s = c .before .before in
-    let e = sym (c .before .rgb-accepted .ensures) ∙ c .if1 .taken in
-    sym (rw (s .channels .ensures) at (rgb-accepted (s .channels .result) e))
+    c .rgb-verdict .ensures ∙ sym (ap (λ w. firstThat (swatchRefusals w)) (c .before .before .swatch .given .1))
 
 returns-2 : tie.Need-returns-2
-returns-2 c = sym (rw (c .before .before .before .channels .ensures) at (c .rgb-number .ensures))
+returns-2 c =
+    c .channel-verdict .ensures ∙ sym (grey-first (c .before .before .swatch2 .given .0 .0))
+    ∙ sym (ap (λ w. firstThat (swatchRefusals w)) (c .before .before .swatch2 .given .1))
 
-channels-requires : tie.Need-channels-requires
-channels-requires c κs = search needs
+enum-known-swatch : tie.Need-enum-known-swatch
+enum-known-swatch c = search needs
 
-rgb-accepted-requires : tie.Need-rgb-accepted-requires
-rgb-accepted-requires c κs = search needs
+enum-known-swatch-2 : tie.Need-enum-known-swatch-2
+enum-known-swatch-2 c = search needs
 
-rgb-number-requires : tie.Need-rgb-number-requires
-rgb-number-requires c κs = sym (c .before .rgb-accepted .ensures) ∙ c .if1 .left
+rgb-verdict-requires : tie.Need-rgb-verdict-requires
+rgb-verdict-requires c κs = search needs
+
+channel-verdict-requires : tie.Need-channel-verdict-requires
+channel-verdict-requires c κs = search needs
 
 pub swatch-verdict-spec : {M : Type 1} → statement M
 swatch-verdict-spec =
     tie.close
-    (tie.spec channels-requires rgb-accepted-requires returns rgb-number-requires returns-2)
+    (tie.spec
+    enum-known-swatch
+    rgb-verdict-requires
+    enum-known-swatch-2
+    channel-verdict-requires
+    returns
+    returns-2)

@@ -44,19 +44,16 @@ enum-known-n c = search needs
 enum-told : tie.Need-enum-told
 enum-told c = search needs
 
-channels-requires : tie.Need-channels-requires
-channels-requires c κs = search needs
-
 -- Past the match the swatch is accepted.
 is-accepted : (c : tie.After-enum-told)
     → firstThat (swatchRefusals (c .before .before .before .before .before .args .swatch)) ≡ accepted
 is-accepted c = sym (c .before .before .swatch-verdict .ensures) ∙ ap verdictOf (c .enum-told .given .1)
 
-rgb-cell-requires : tie.Need-rgb-cell-requires
-rgb-cell-requires c κs =
-    let s = c .before .before .before .before in (
+swatch-cell-requires : tie.Need-swatch-cell-requires
+swatch-cell-requires c κs =
+    let s = c .before .before .before in (
       (s .before .if1 .left, ltb-false 64 (s .before .before .args .side) (s .if2 .left)),
-      rw (c .channels .ensures) (swatch-in-range (s .before .before .args .swatch) (is-accepted (c .before))),
+      swatch-in-range (s .before .before .args .swatch) (is-accepted c),
     )
 
 returns-2 : tie.Need-returns-2
@@ -67,8 +64,8 @@ returns-2 c =
 returns-3 : tie.Need-returns-3
 returns-3 c =
     record {
-      no-number = past (c .before .before .before .before .before) ∙ is-accepted (c .before .before);
-      cell = rw (← c .before .channels .ensures) (c .rgb-cell .ensures);
+      no-number = past (c .before .before .before .before) ∙ is-accepted (c .before);
+      cell = c .swatch-cell .ensures;
     }
 
 pub to-cell-spec : {M : Type 1} → statement M
@@ -79,7 +76,6 @@ to-cell-spec =
     swatch-verdict-requires
     enum-known-n
     enum-told
-    channels-requires
-    rgb-cell-requires
+    swatch-cell-requires
     returns-2
     returns-3)
