@@ -9,6 +9,10 @@
    overlap. What the caller need not keep: any length, side, count, mark, coordinate or f32 may be passed; what is
    wrong is refused.
 
+   Stack: the most bytes that a call takes on x86-64, as `bash tests/stack.sh` measures them on a painted stack. The
+   return address is counted; arguments that the caller passes on the stack and what memset takes itself are not. Some
+   calls write below the stack pointer (the red zone): an interrupt on the same stack must leave 128 bytes there.
+
    Refusal numbers, as the documents have them:
      11  the side is outside 2 to 64
      12  the mark is 0, or in a sheet above 255
@@ -39,35 +43,35 @@ extern "C" {
 
 /* Curves: points has x y z of points 0 to 3, 12 bytes. A cell (x, y, z) stands at byte x + side y + side side z. */
 
-/* Whether a curve can be drawn: 0, or 51, 11, 13, 14, 15. */
+/* Whether a curve can be drawn: 0, or 51, 11, 13, 14, 15. Stack: 184 bytes. */
 int64_t gidzkhalu_check_curve(uint32_t side, const uint8_t *points, size_t points_len, uint32_t steps);
 
 /* Writes x y z of the cell of samples 0 to steps from the front of the list: steps + 1, or 51, 11, 13, 22, 14, 15.
-   22: the list is shorter than 3 (steps + 1) bytes. */
+   22: the list is shorter than 3 (steps + 1) bytes. Stack: 296 bytes. */
 int64_t gidzkhalu_list_curve(uint32_t side, const uint8_t *points, size_t points_len, uint32_t steps,
                              uint8_t *list, size_t list_len);
 
-/* Writes the mark in the cell of each sample: steps + 1, or 51, 11, 21, 12, 13, 14, 15. */
+/* Writes the mark in the cell of each sample: steps + 1, or 51, 11, 21, 12, 13, 14, 15. Stack: 241 bytes. */
 int64_t gidzkhalu_draw_curve(uint32_t side, const uint8_t *points, size_t points_len, uint32_t steps, uint8_t mark,
                              uint8_t *grid, size_t grid_len);
 
 /* Patches: points has x y z of points 0 to 15, 48 bytes; g(i, j), i along t and j along u, is point 4 i + j. n steps
    along t, m along u. */
 
-/* Whether a patch can be drawn: 0, or 51, 11, 13, 14, 15. */
+/* Whether a patch can be drawn: 0, or 51, 11, 13, 14, 15. Stack: 856 bytes. */
 int64_t gidzkhalu_check_patch(uint32_t side, const uint8_t *points, size_t points_len, uint32_t n, uint32_t m);
 
-/* Writes the mark in the cell of each sample: (n + 1) (m + 1), or 51, 11, 21, 12, 13, 14, 15. */
+/* Writes the mark in the cell of each sample: (n + 1) (m + 1), or 51, 11, 21, 12, 13, 14, 15. Stack: 1688 bytes. */
 int64_t gidzkhalu_draw_patch(uint32_t side, const uint8_t *points, size_t points_len, uint32_t n, uint32_t m,
                              uint8_t mark, uint8_t *grid, size_t grid_len);
 
 /* Swatches: kind 0 is a colour, a b c its red, green and blue; kind 1 is a grey, a, and b and c are not looked at. */
 
-/* Writes x y z of the swatch's cell, 3 bytes: 0, or 53, 52, 11, 31, 32. */
+/* Writes x y z of the swatch's cell, 3 bytes: 0, or 53, 52, 11, 31, 32. Stack: 8 bytes. */
 int64_t gidzkhalu_to_cell(uint32_t side, uint32_t kind, float a, float b, float c, uint8_t *cell, size_t cell_len);
 
 /* Writes red, green and blue of the swatch half-way between two, 12 bytes: the bit pattern of each f32, the low byte
-   first. 0, or 53, 52, then 31, 32 of the first and of the second. */
+   first. 0, or 53, 52, then 31, 32 of the first and of the second. Stack: 8 bytes. */
 int64_t gidzkhalu_half_way(uint32_t kind, float a, float b, float c, uint32_t kind2, float a2, float b2, float c2,
                            uint8_t *channels, size_t channels_len);
 
@@ -75,17 +79,18 @@ int64_t gidzkhalu_half_way(uint32_t kind, float a, float b, float c, uint32_t ki
 
 /* Draws a sheet into the first side x side x side bytes of the buffer, cleared first; the rest keeps what it held. The
    number of curve lines, and the side in the one byte of detail; or minus the number, and the line there (0 for 21). 52:
-   the detail is not 1 byte. */
+   the detail is not 1 byte. Stack: 337 bytes. */
 int64_t gidzkhalu_draw_sheet(const uint8_t *input, size_t input_len, uint8_t *buffer, size_t buffer_len,
                              uint8_t *detail, size_t detail_len);
 
 /* Writes the part of a cube's listing for count places from byte first on from the front of the text; the part from
    byte 0 begins with the heading. Parts in turn, the first not empty, are the whole listing. The number of bytes, or 11,
-   21, 22. 22: the text is shorter than 21 (count + 1) bytes. */
+   21, 22. 22: the text is shorter than 21 (count + 1) bytes. Stack: 89 bytes. */
 int64_t gidzkhalu_list_part(uint32_t side, const uint8_t *cube, size_t cube_len, size_t first, size_t count,
                             uint8_t *text, size_t text_len);
 
-/* Writes the line of a refused sheet from the front of the text: 18, or 22 where the text is shorter than that. */
+/* Writes the line of a refused sheet from the front of the text: 18, or 22 where the text is shorter than that.
+   Stack: 8 bytes. */
 int64_t gidzkhalu_refusal_line(uint32_t number, uint32_t line, uint8_t *text, size_t text_len);
 
 #ifdef __cplusplus
