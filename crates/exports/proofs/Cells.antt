@@ -1,21 +1,19 @@
 -- What swatch calls' contracts say of signed answers.
-use mathlib.Core.Path.{_≡_, refl, _∙_, ap}
+use mathlib.Core.Path.{_≡_, refl, sym, _∙_, ap, subst}
+use mathlib.Core.Bool.{Bool, false, not}
 use mathlib.Core.List.{List, [], _∷_, _++_}
-use Prim.Native.Nat.{ℕ, suc, _+_, _≤_, _<_}
+use Prim.Native.Nat.{ℕ, suc, _+_, _≤_}
 use native.Mathlib.Omega.{arith}
-use lib.IntN.{ℤ}
-use mathlib.Core.Bool.{not}
+use borrow.Author.Tests.{eq-eqb, ne-eqb}
 use lib.Dec.{T}
+use lib.IntN.{ℤ, pos}
 use lib.Ieee.{Float, nan, inf, fin, le, isNan}
 use lib.ListN.{length, set, take, drop, drop-of-length-le}
 use lib.Seq.{sets-eq, drop-drop}
-use Rattle.swatch.specs.declared.CellAnswer.{CellAnswer}
-use Rattle.swatch.specs.ToCell.{CellSays}
-use Rattle.exports.specs.Signed.{minus}
-use Rattle.swatch.specs.declared.Swatch.{Swatch}
-use Rattle.swatch.specs.declared.HalfWayAnswer.{HalfWayAnswer}
-use Rattle.swatch.specs.HalfWay.{HalfWaySays}
-use Rattle.exports.specs.Swatches.{swatchOf, channelBytes, TellsCell, TellsMix, CellBytes, MixBytes}
+use Rattle.decide.specs.Refusal.{Verdict, Rule, _when_, firstThat, accepted, refused}
+use Rattle.decide.proofs.Refusal.{first-applies, first-passes}
+use Rattle.exports.specs.Signed.{minus, signed, otherLength}
+use Rattle.exports.specs.Swatches.{channelBytes, Fills}
 
 -- Three bytes are written.
 pub three-bytes : (l : List ℕ) (x y z : ℕ) → length l ≡ 3 → set (set (set l 0 x) 1 y) 2 z ≡ x ∷ y ∷ z ∷ []
@@ -25,28 +23,44 @@ three-bytes (p ∷ q ∷ []) x y z e = absurd (omega (arith, e))
 three-bytes (p ∷ q ∷ r ∷ []) x y z e = refl
 three-bytes (p ∷ q ∷ r ∷ s ∷ l) x y z e = absurd (omega (arith, e))
 
-module _ {S kind : ℕ} {a b c : Float} {cell : List ℕ} where
-  pub no-kind : {r : ℤ} → 1 < kind → r ≡ minus 53 → CellBytes S kind a b c cell cell r
-  no-kind h e = record {
-    no-kind = λ _. (e, refl);
-    not-three = λ k. absurd (omega (arith, h, k));
-    call = λ k. absurd (omega (arith, h, k));
+-- No verdict is both.
+apart : (v : Verdict) (n : ℕ) → v ≡ accepted → v ≡ refused n → ⊥
+apart v n a r = subst Accepted (sym a ∙ r) tt
+  where
+    Accepted : Verdict → Type 0
+    Accepted accepted = Unit
+    Accepted (refused k) = ⊥
+
+-- A refused call that changes nothing, and an accepted one.
+module _ {order : List Rule} {Written : List ℕ → Type 0} {before : List ℕ} where
+  pub fills-refused : (n : ℕ) {r : ℤ} → firstThat order ≡ refused n → r ≡ minus n → Fills order Written before before r
+  fills-refused n e a = record {
+    answer = a ∙ sym (ap (λ v. signed v 0) e);
+    kept = λ _ _. refl;
+    written = λ w. absurd (apart (firstThat order) n w e);
   }
 
-  pub not-three : {r : ℤ} → kind ≤ 1 → (length cell ≡ 3 → ⊥) → r ≡ minus 52 → CellBytes S kind a b c cell cell r
-  not-three h n e = record {
-    no-kind = λ k. absurd (omega (arith, h, k));
-    not-three = λ _ _. (e, refl);
-    call = λ _ t. absurd (n t);
+  pub fills-accepted : {after : List ℕ} {r : ℤ} → firstThat order ≡ accepted → r ≡ pos 0 → Written after
+      → Fills order Written before after r
+  fills-accepted e a w = record {
+    answer = a ∙ sym (ap (λ v. signed v 0) e);
+    kept = λ n k. absurd (apart (firstThat order) n e k);
+    written = λ _. w;
   }
 
-  pub cell-call : {cellNow : List ℕ} {r : ℤ} → kind ≤ 1 → length cell ≡ 3 → (ans : CellAnswer) →
-      CellSays S (swatchOf kind a b c) ans → TellsCell cell cellNow r ans → CellBytes S kind a b c cell cellNow r
-  cell-call h t ans s w = record {
-    no-kind = λ k. absurd (omega (arith, h, k));
-    not-three = λ _ n. absurd (n t);
-    call = λ _ _. (ans, s, w);
-  }
+-- 52 is tried once the kinds are good, and the call's own numbers once the length is good too.
+module _ (size : ℕ) (bytes : List ℕ) (wrong : Bool) (rules : List Rule) where
+  pub other-length : wrong ≡ false → (length bytes ≡ size → ⊥)
+      → firstThat (53 when wrong ∷ 52 when otherLength size bytes ∷ rules) ≡ refused 52
+  other-length g n =
+      first-passes 53 wrong (52 when otherLength size bytes ∷ rules) g
+      ∙ first-applies 52 (otherLength size bytes) rules (rw (ne-eqb (length bytes) size n))
+
+  pub own-numbers : wrong ≡ false → length bytes ≡ size
+      → firstThat (53 when wrong ∷ 52 when otherLength size bytes ∷ rules) ≡ firstThat rules
+  own-numbers g e =
+      first-passes 53 wrong (52 when otherLength size bytes ∷ rules) g
+      ∙ first-passes 52 (otherLength size bytes) rules (rw (eq-eqb (length bytes) size e))
 
 -- Four bytes are written from byte i on.
 pub four-bytes : (l : List ℕ) (i a b c d : ℕ) → i + 4 ≤ length l →
@@ -80,27 +94,3 @@ no-nan (inf t) nan h = absurd h
 no-nan (fin t m e) nan h = absurd h
 no-nan x (inf s) h = tt
 no-nan x (fin s m e) h = tt
-
-module _ {first second : ℕ} {v w : Swatch} {channels : List ℕ} where
-  pub no-kinds : {r : ℤ} → (first ≤ 1 → second ≤ 1 → ⊥) → r ≡ minus 53 → MixBytes first second v w channels channels r
-  no-kinds n e = record {
-    no-kind = λ _. (e, refl);
-    not-twelve = λ f s. absurd (n f s);
-    call = λ f s. absurd (n f s);
-  }
-
-  pub not-twelve : {r : ℤ} → first ≤ 1 → second ≤ 1 → (length channels ≡ 12 → ⊥) → r ≡ minus 52 →
-      MixBytes first second v w channels channels r
-  not-twelve f s n e = record {
-    no-kind = λ k. absurd (k f s);
-    not-twelve = λ _ _ _. (e, refl);
-    call = λ _ _ t. absurd (n t);
-  }
-
-  pub mix-call : {now : List ℕ} {r : ℤ} → first ≤ 1 → second ≤ 1 → length channels ≡ 12 → (ans : HalfWayAnswer) →
-      HalfWaySays v w ans → TellsMix channels now r ans → MixBytes first second v w channels now r
-  mix-call f s t ans h g = record {
-    no-kind = λ k. absurd (k f s);
-    not-twelve = λ _ _ n. absurd (n t);
-    call = λ _ _ _. (ans, h, g);
-  }

@@ -1,5 +1,5 @@
 -- What a C caller is answered: one signed number, a count or minus the refusal's number.
-use mathlib.Core.Bool.{not}
+use mathlib.Core.Bool.{Bool, not}
 use mathlib.Core.List.{List, [], _∷_}
 use Prim.Native.Nat.{ℕ}
 use lib.Dec.{eqb}
@@ -15,6 +15,10 @@ abbrev pub signed : Verdict → (count : ℕ) → ℤ
 signed accepted n = pos n
 signed (refused k) n = minus k
 
+-- A record or an out-buffer of another length than it should have.
+abbrev pub otherLength : (size : ℕ) (bytes : List ℕ) → Bool
+otherLength size bytes = not (eqb (length bytes) size)
+
 -- 51, before all else: a record of another length.
 abbrev pub ofLength : (size : ℕ) (bytes : List ℕ) → Verdict → Verdict
-ofLength size r v = orElse (firstThat (51 when not (eqb (length r) size) ∷ [])) v
+ofLength size r v = orElse (firstThat (51 when otherLength size r ∷ [])) v

@@ -1,21 +1,20 @@
 -- Swatch calls from C: a kind and three numbers stand for a swatch; a cell is three bytes, and three channels twelve.
 use mathlib.Core.Path.{_≡_}
-use mathlib.Core.Bool.{cond}
+use mathlib.Core.Bool.{Bool, cond, _||_}
 use mathlib.Core.List.{List, [], _∷_, _++_}
-use Prim.Native.Nat.{ℕ, _/_, _%_, _≤_, _<_}
-use lib.Dec.{eqb}
-use lib.IntN.{ℤ, pos}
+use Prim.Native.Nat.{ℕ, _/_, _%_}
+use lib.Dec.{eqb, ltb}
+use lib.IntN.{ℤ}
 use lib.Ieee.{Float, binary32, toBits}
-use lib.ListN.{length}
+use Rattle.decide.specs.Refusal.{Rule, _when_, firstThat, accepted, refused}
+use Rattle.swatch.specs.declared.Rgb.{Rgb}
+use Rattle.swatch.specs.declared.Cell.{Cell}
 use Rattle.swatch.specs.declared.Swatch.{Swatch}
 use Rattle.swatch.specs.declared.Swatch.the-variants.{Color, Grey}
-use Rattle.swatch.specs.declared.CellAnswer.{CellAnswer}
-use Rattle.swatch.specs.declared.CellAnswer.the-variants as cells
-use Rattle.swatch.specs.declared.HalfWayAnswer.{HalfWayAnswer}
-use Rattle.swatch.specs.declared.HalfWayAnswer.the-variants as mixes
-use Rattle.swatch.specs.ToCell.{CellSays}
-use Rattle.swatch.specs.HalfWay.{HalfWaySays}
-use Rattle.exports.specs.Signed.{minus}
+use Rattle.swatch.specs.Swatch.{channelsOf}
+use Rattle.swatch.specs.ToCell.{IsCell, cellRefusals}
+use Rattle.swatch.specs.HalfWay.{IsHalfWay, halfWayRefusals}
+use Rattle.exports.specs.Signed.{signed, otherLength}
 
 -- Kind 0 is a colour of three channels, kind 1 a grey, which is the first number.
 abbrev pub swatchOf : (kind : ℕ) (a b c : Float) → Swatch
@@ -26,26 +25,45 @@ abbrev pub channelBytes : Float → List ℕ
 channelBytes v =
     let b = toBits binary32 v in b % 256 ∷ b / 256 % 256 ∷ b / 65536 % 256 ∷ b / 16777216 % 256 ∷ []
 
--- What is told of an answer: the signed number, and what the out-buffer holds.
-abbrev pub TellsCell : (before after : List ℕ) (r : ℤ) → CellAnswer → Type 0
-TellsCell before after r (cells.Refused n) = (r ≡ minus n) × (after ≡ before)
-TellsCell before after r (cells.Found p) = (r ≡ pos 0) × (after ≡ p .x ∷ p .y ∷ p .z ∷ [])
+-- A kind of swatch that does not exist.
+abbrev pub noKind : (kind : ℕ) → Bool
+noKind kind = ltb 1 kind
 
-abbrev pub TellsMix : (before after : List ℕ) (r : ℤ) → HalfWayAnswer → Type 0
-TellsMix before after r (mixes.Refused n) = (r ≡ minus n) × (after ≡ before)
-TellsMix before after r (mixes.Mixed c) =
-    (r ≡ pos 0) × (after ≡ channelBytes (c .red) ++ channelBytes (c .green) ++ channelBytes (c .blue))
+-- Swatch to cell: 53 and 52 come first, then the call's own numbers.
+abbrev pub cellOrder : (S kind : ℕ) (w : Swatch) (cell : List ℕ) → List Rule
+cellOrder S kind w cell =
+    53 when noKind kind
+    ∷ 52 when otherLength 3 cell
+    ∷ cellRefusals S w
 
--- Swatch to cell. 53 comes first, then 52, and nothing is changed; then the call.
-pub record CellBytes (S kind : ℕ) (a b c : Float) (cell cellNow : List ℕ) (r : ℤ) : Type 0 where
-  pub no-kind : 1 < kind → (r ≡ minus 53) × (cellNow ≡ cell)
-  pub not-three : kind ≤ 1 → (length cell ≡ 3 → ⊥) → (r ≡ minus 52) × (cellNow ≡ cell)
-  pub call : kind ≤ 1 → length cell ≡ 3 →
-      (ans : CellAnswer) × CellSays S (swatchOf kind a b c) ans × TellsCell cell cellNow r ans
+-- Half-way: 53 for either kind and 52 come first, then the call's own numbers.
+abbrev pub mixOrder : (first second : ℕ) (v w : Swatch) (channels : List ℕ) → List Rule
+mixOrder first second v w channels =
+    53 when (noKind first || noKind second)
+    ∷ 52 when otherLength 12 channels
+    ∷ halfWayRefusals v w
 
--- Half-way. 53 comes first, for either kind, then 52, and nothing is changed; then the call.
-pub record MixBytes (first second : ℕ) (v w : Swatch) (channels channelsNow : List ℕ) (r : ℤ) : Type 0 where
-  pub no-kind : (first ≤ 1 → second ≤ 1 → ⊥) → (r ≡ minus 53) × (channelsNow ≡ channels)
-  pub not-twelve : first ≤ 1 → second ≤ 1 → (length channels ≡ 12 → ⊥) → (r ≡ minus 52) × (channelsNow ≡ channels)
-  pub call : first ≤ 1 → second ≤ 1 → length channels ≡ 12 →
-      (ans : HalfWayAnswer) × HalfWaySays v w ans × TellsMix channels channelsNow r ans
+-- The bytes x y z of the cell of three channels.
+pub record CellWritten (S : ℕ) (c : Rgb) (bytes : List ℕ) : Type 0 where
+  pub cell : Cell
+  pub right : IsCell S c cell
+  pub written : bytes ≡ cell .x ∷ cell .y ∷ cell .z ∷ []
+
+-- The bytes of the channels half-way between two times three.
+pub record MixWritten (a b : Rgb) (bytes : List ℕ) : Type 0 where
+  pub mixed : Rgb
+  pub right : IsHalfWay a b mixed
+  pub written : bytes ≡ channelBytes (mixed .red) ++ channelBytes (mixed .green) ++ channelBytes (mixed .blue)
+
+-- A call that fills an out-buffer: 0 and what it writes, or minus the first number of its order and the buffer as it was.
+pub record Fills (order : List Rule) (Written : List ℕ → Type 0) (before after : List ℕ) (r : ℤ) : Type 0 where
+  pub answer : r ≡ signed (firstThat order) 0
+  pub kept : (n : ℕ) → firstThat order ≡ refused n → after ≡ before
+  pub written : firstThat order ≡ accepted → Written after
+
+abbrev pub CellBytes : (S kind : ℕ) (w : Swatch) (cell cellNow : List ℕ) (r : ℤ) → Type 0
+CellBytes S kind w cell cellNow r = Fills (cellOrder S kind w cell) (CellWritten S (channelsOf w)) cell cellNow r
+
+abbrev pub MixBytes : (first second : ℕ) (v w : Swatch) (channels channelsNow : List ℕ) (r : ℤ) → Type 0
+MixBytes first second v w channels channelsNow r =
+    Fills (mixOrder first second v w channels) (MixWritten (channelsOf v) (channelsOf w)) channels channelsNow r

@@ -37,7 +37,7 @@ pub extern "C" fn gidzkhalu_to_cell(
     c: f32,
     cell: &mut [u8],
 ) -> i64
-    ensures { λ r. ⌜ CellBytes side kind a b c (now (cell .entry)) (now (cell .exit)) r ⌝ }
+    ensures { λ r. ⌜ CellBytes side kind (swatchOf kind a b c) (now (cell .entry)) (now (cell .exit)) r ⌝ }
 {
     if kind > 1 {
         return refused(53);

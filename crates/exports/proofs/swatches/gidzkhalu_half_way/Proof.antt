@@ -1,15 +1,24 @@
 -- `gidzkhalu_half_way` meets its contract: the kinds and the channels' length are judged, then the call.
 use borrow.Author.Needs.{needs}
-use mathlib.Core.Path.{_≡_, refl, sym, subst}
-use Prim.Native.Nat.{_≤_}
+use borrow.Author.Tests.{lt-ltb, le-ltb}
+use mathlib.Core.Path.{_≡_, refl, _∙_, subst}
+use mathlib.Core.Bool.{_||_}
 use native.Mathlib.Omega.{arith}
 use lib.ListN.{length}
+use Rattle.decide.specs.Refusal.{firstThat}
+use Rattle.decide.proofs.Refusal.{first-applies}
 use Rattle.swatch.specs.declared.Swatch.{Swatch}
-use Rattle.swatch.specs.Swatch.{channelsOf}
-use Rattle.swatch.specs.HalfWay.{IsHalfWay, HalfWaySays}
-use Rattle.exports.specs.Swatches.{swatchOf, TellsMix}
+use Rattle.swatch.specs.HalfWay.{AcceptedHalfWay, HalfWaySays, halfWayRefusals}
+use Rattle.exports.specs.Swatches.{swatchOf, noKind, mixOrder}
 use Rattle.exports.proofs.Small.{small-read}
-use Rattle.exports.proofs.Cells.{twelve-bytes, no-nan, no-kinds, not-twelve, mix-call}
+use Rattle.exports.proofs.Cells.{
+  twelve-bytes,
+  no-nan,
+  fills-refused,
+  fills-accepted,
+  other-length,
+  own-numbers,
+}
 use Rattle.exports.proofs.swatches.gidzkhalu_half_way.Statement.{statement}
 use Rattle.exports.proofs.swatches.gidzkhalu_half_way.Tie as tie
 
@@ -17,13 +26,18 @@ refused-requires : tie.Need-refused-requires
 refused-requires c κs = search needs
 
 returns : tie.Need-returns
-returns c = no-kinds (λ k _. omega (arith, k, c .before .if1 .taken)) (small-read (c .refused .ensures .0) (c .refused .ensures .1) .0)
+returns c =
+    fills-refused 53 (first-applies 53 _ _ (rw (lt-ltb 1 _ (c .before .if1 .taken))))
+    (small-read (c .refused .ensures .0) (c .refused .ensures .1) .0)
 
 refused-requires-2 : tie.Need-refused-requires-2
 refused-requires-2 c κs = search needs
 
 returns-2 : tie.Need-returns-2
-returns-2 c = no-kinds (λ _ k. omega (arith, k, c .before .if2 .taken)) (small-read (c .refused2 .ensures .0) (c .refused2 .ensures .1) .0)
+returns-2 c =
+    let e = c .before in
+    fills-refused 53 (first-applies 53 _ _ (rw (le-ltb 1 _ (e .before .if1 .left), lt-ltb 1 _ (e .if2 .taken))))
+    (small-read (c .refused2 .ensures .0) (c .refused2 .ensures .1) .0)
 
 refused-requires-3 : tie.Need-refused-requires-3
 refused-requires-3 c κs = search needs
@@ -31,7 +45,11 @@ refused-requires-3 c κs = search needs
 returns-3 : tie.Need-returns-3
 returns-3 c =
     let e = c .before in
-    not-twelve (omega (arith, e .before .before .if1 .left)) (omega (arith, e .before .if2 .left)) (λ t. omega (arith, t, e .if3 .taken))
+    let s = e .before .before .before .before .args in
+    fills-refused 52
+    (other-length 12 (s .channels .now) (noKind (s .kind) || noKind (s .kind2)) _
+    (rw (le-ltb 1 (s .kind) (e .before .before .if1 .left), le-ltb 1 (s .kind2) (e .before .if2 .left)))
+    (λ t. omega (arith, t, e .if3 .taken)))
     (small-read (c .refused3 .ensures .0) (c .refused3 .ensures .1) .0)
 
 swatch-of-requires : tie.Need-swatch-of-requires
@@ -60,49 +78,51 @@ module _ (t : tie.After-half-way) where
   twelve : length (start .args .channels .now) ≡ 12
   twelve = omega (arith, t .before .before .before .if3 .left)
 
-  kind : start .args .kind ≤ 1
-  kind = omega (arith, t .before .before .before .before .before .if1 .left)
-
-  kind2 : start .args .kind2 ≤ 1
-  kind2 = omega (arith, t .before .before .before .before .if2 .left)
-
   abbrev first : Swatch
   first = swatchOf (start .args .kind) (start .args .a) (start .args .b) (start .args .c)
 
   abbrev second : Swatch
   second = swatchOf (start .args .kind2) (start .args .a2) (start .args .b2) (start .args .c2)
 
+  own : firstThat (mixOrder (start .args .kind) (start .args .kind2) first second (start .args .channels .now))
+      ≡ firstThat (halfWayRefusals first second)
+  own =
+      own-numbers 12 (start .args .channels .now) _ _
+      (rw (le-ltb 1 _ (t .before .before .before .before .before .if1 .left), le-ltb 1 _ (t .before .before .before .before .if2 .left)))
+      twelve
+
   says : HalfWaySays first second (t .half-way .result)
   says = rw (t .before .before .swatch-of .ensures, t .before .swatch-of2 .ensures) at (t .half-way .ensures)
 
--- The mixed channels.
-mixed : (c : tie.After-mixed) → IsHalfWay (channelsOf (first (c .before .before))) (channelsOf (second (c .before .before))) (c .mixed .given .0 .0)
-mixed c =
-    let t = c .before .before in subst (HalfWaySays (first t) (second t)) (c .mixed .given .1) (says t) .mixed
+-- What the answer says of the mixed channels.
+mixes : (c : tie.After-mixed)
+    → AcceptedHalfWay (first (c .before .before)) (second (c .before .before)) (c .mixed .given .0 .0)
+mixes c =
+    let t = c .before .before in subst (HalfWaySays (first t) (second t)) (c .mixed .given .1) (says t)
 
 put-channel-requires : tie.Need-put-channel-requires
 put-channel-requires c κs =
-    let m = c .before .before in (omega (arith, twelve (m .before .before)), no-nan _ _ (mixed m .red .low))
+    let m = c .before .before in (omega (arith, twelve (m .before .before)), no-nan _ _ (mixes m .mixed .red .low))
 
 put-channel-requires-2 : tie.Need-put-channel-requires-2
 put-channel-requires-2 c κs =
     let p = c .before .before .before in
     let m = p .before .before .before in
-    (omega (arith, twelve (m .before .before), p .put-channel .ensures .0), no-nan _ _ (mixed m .green .low))
+    (omega (arith, twelve (m .before .before), p .put-channel .ensures .0), no-nan _ _ (mixes m .mixed .green .low))
 
 put-channel-requires-3 : tie.Need-put-channel-requires-3
 put-channel-requires-3 c κs =
     let q = c .before .before .before in
     let p = q .before .before .before .before in
     let m = p .before .before .before in
-    (omega (arith, twelve (m .before .before), p .put-channel .ensures .0, q .put-channel2 .ensures .0), no-nan _ _ (mixed m .blue .low))
+    (omega (arith, twelve (m .before .before), p .put-channel .ensures .0, q .put-channel2 .ensures .0), no-nan _ _ (mixes m .mixed .blue .low))
 
 returns-4 : tie.Need-returns-4
 returns-4 c =
     let k = c .before .before in
     let t = k .before .before in
-    mix-call (kind t) (kind2 t) (twelve t) (t .half-way .result) (says t)
-    (subst (TellsMix _ _ _) (sym (k .number .given .1)) (small-read (c .refused4 .ensures .0) (c .refused4 .ensures .1) .0, refl))
+    let e = subst (HalfWaySays (first t) (second t)) (k .number .given .1) (says t) in
+    fills-refused (k .number .given .0 .0) (own t ∙ e) (small-read (c .refused4 .ensures .0) (c .refused4 .ensures .1) .0)
 
 same-length : tie.Need-same-length
 same-length c = search needs
@@ -114,12 +134,14 @@ returns-5 c =
     let p = q .before .before .before .before in
     let m = p .before .before .before in
     let t = m .before .before in
-    mix-call (kind t) (kind2 t) (twelve t) (t .half-way .result) (says t)
-    (subst (TellsMix _ _ _) (sym (m .mixed .given .1)) (
-      refl,
-      twelve-bytes (start t .args .channels .now) _ _ _ _ _ _ (twelve t) (p .put-channel .ensures .1) (q .put-channel2 .ensures .1)
-          (o .put-channel3 .ensures .1),
-    ))
+    fills-accepted (own t ∙ mixes m .no-number) refl
+    (record {
+      mixed = m .mixed .given .0 .0;
+      right = mixes m .mixed;
+      written =
+          twelve-bytes (start t .args .channels .now) _ _ _ _ _ _ (twelve t) (p .put-channel .ensures .1)
+          (q .put-channel2 .ensures .1) (o .put-channel3 .ensures .1);
+    })
 
 pub gidzkhalu-half-way-spec : {M : Type 1} → statement M
 gidzkhalu-half-way-spec =

@@ -1,13 +1,16 @@
 -- `gidzkhalu_to_cell` meets its contract: the kind and the cell's length are judged, then the call.
 use borrow.Author.Needs.{needs}
-use mathlib.Core.Path.{_≡_, refl, sym, subst}
-use Prim.Native.Nat.{_≤_}
+use borrow.Author.Tests.{lt-ltb, le-ltb}
+use mathlib.Core.Path.{_≡_, refl, _∙_, subst}
 use native.Mathlib.Omega.{arith}
 use lib.ListN.{length}
-use Rattle.swatch.specs.ToCell.{CellSays}
-use Rattle.exports.specs.Swatches.{swatchOf, TellsCell}
+use Rattle.decide.specs.Refusal.{firstThat}
+use Rattle.decide.proofs.Refusal.{first-applies}
+use Rattle.swatch.specs.declared.Swatch.{Swatch}
+use Rattle.swatch.specs.ToCell.{CellSays, cellRefusals}
+use Rattle.exports.specs.Swatches.{swatchOf, cellOrder}
 use Rattle.exports.proofs.Small.{small-read}
-use Rattle.exports.proofs.Cells.{three-bytes, no-kind, not-three, cell-call}
+use Rattle.exports.proofs.Cells.{three-bytes, fills-refused, fills-accepted, other-length, own-numbers}
 use Rattle.exports.proofs.swatches.gidzkhalu_to_cell.Statement.{statement}
 use Rattle.exports.proofs.swatches.gidzkhalu_to_cell.Tie as tie
 
@@ -15,7 +18,9 @@ refused-requires : tie.Need-refused-requires
 refused-requires c κs = search needs
 
 returns : tie.Need-returns
-returns c = no-kind (c .before .if1 .taken) (small-read (c .refused .ensures .0) (c .refused .ensures .1) .0)
+returns c =
+    fills-refused 53 (first-applies 53 _ _ (lt-ltb 1 _ (c .before .if1 .taken)))
+    (small-read (c .refused .ensures .0) (c .refused .ensures .1) .0)
 
 refused-requires-2 : tie.Need-refused-requires-2
 refused-requires-2 c κs = search needs
@@ -23,7 +28,8 @@ refused-requires-2 c κs = search needs
 returns-2 : tie.Need-returns-2
 returns-2 c =
     let e = c .before in
-    not-three (omega (arith, e .before .if1 .left)) (λ t. omega (arith, t, e .if2 .taken)) (small-read (c .refused2 .ensures .0) (c .refused2 .ensures .1) .0)
+    fills-refused 52 (other-length 3 (e .before .before .before .args .cell .now) _ _ (le-ltb 1 _ (e .before .if1 .left)) (λ t. omega (arith, t, e .if2 .taken)))
+    (small-read (c .refused2 .ensures .0) (c .refused2 .ensures .1) .0)
 
 swatch-of-requires : tie.Need-swatch-of-requires
 swatch-of-requires c κs = search needs
@@ -48,10 +54,14 @@ module _ (t : tie.After-to-cell) where
   three : length (start .args .cell .now) ≡ 3
   three = omega (arith, t .before .before .if2 .left)
 
-  kind : start .args .kind ≤ 1
-  kind = omega (arith, t .before .before .before .if1 .left)
+  abbrev swatch : Swatch
+  swatch = swatchOf (start .args .kind) (start .args .a) (start .args .b) (start .args .c)
 
-  says : CellSays (start .args .side) (swatchOf (start .args .kind) (start .args .a) (start .args .b) (start .args .c)) (t .to-cell .result)
+  own : firstThat (cellOrder (start .args .side) (start .args .kind) swatch (start .args .cell .now))
+      ≡ firstThat (cellRefusals (start .args .side) swatch)
+  own = own-numbers 3 (start .args .cell .now) _ _ (le-ltb 1 _ (t .before .before .before .if1 .left)) three
+
+  says : CellSays (start .args .side) swatch (t .to-cell .result)
   says = rw (t .before .swatch-of .ensures) at (t .to-cell .ensures)
 
 slice-write-cell : tie.Need-slice-write-cell
@@ -67,8 +77,8 @@ returns-3 : tie.Need-returns-3
 returns-3 c =
     let k = c .before .before in
     let t = k .before .before in
-    cell-call (kind t) (three t) (t .to-cell .result) (says t)
-    (subst (TellsCell _ _ _) (sym (k .number .given .1)) (small-read (c .refused3 .ensures .0) (c .refused3 .ensures .1) .0, refl))
+    let e = subst (CellSays (start t .args .side) (swatch t)) (k .number .given .1) (says t) in
+    fills-refused (k .number .given .0 .0) (own t ∙ e) (small-read (c .refused3 .ensures .0) (c .refused3 .ensures .1) .0)
 
 same-length : tie.Need-same-length
 same-length c = search needs
@@ -77,8 +87,13 @@ returns-4 : tie.Need-returns-4
 returns-4 c =
     let k = c .before in
     let t = k .before .before in
-    cell-call (kind t) (three t) (t .to-cell .result) (says t)
-    (subst (TellsCell _ _ _) (sym (k .found .given .1)) (refl, three-bytes (start t .args .cell .now) _ _ _ (three t)))
+    let e = subst (CellSays (start t .args .side) (swatch t)) (k .found .given .1) (says t) in
+    fills-accepted (own t ∙ e .no-number) refl
+    (record {
+      cell = k .found .given .0 .0;
+      right = e .cell;
+      written = three-bytes (start t .args .cell .now) _ _ _ (three t);
+    })
 
 pub gidzkhalu-to-cell-spec : {M : Type 1} → statement M
 gidzkhalu-to-cell-spec =
