@@ -1,11 +1,9 @@
 /* (b) Direct exact evaluation: every sample from its Bernstein weights, in whole numbers. The largest number, a
    patch's doubled value, is 2 × 63 × 256³ × 256³ < 2^55, so int64_t holds them all. */
-#include "box.h"
-#include "order.h"
-
 #include <math.h>
+#include <stdbool.h>
+#include <stdint.h>
 #include <stdlib.h>
-#include <string.h>
 
 /* n³ times the value at i / n. */
 static inline int64_t blend(int64_t n, int64_t i, int64_t g0, int64_t g1, int64_t g2, int64_t g3)
@@ -74,45 +72,6 @@ static void list_samples(const uint8_t *points, uint32_t n, uint8_t *list)
     }
 }
 
-answer direct_check_curve(uint32_t side, const uint8_t *points, size_t points_len, uint32_t steps)
-{
-    if (points_len != 12)
-        return -51;
-    int refusal = order_of_list(side, points, 12, is_count_out(512, steps), false);
-    if (refusal != 0)
-        return -refusal;
-    return step_too_long(points, steps) ? -15 : 0;
-}
-
-answer direct_list_curve(uint32_t side, const uint8_t *points, size_t points_len, uint32_t steps, uint8_t *list,
-                         size_t list_len)
-{
-    if (points_len != 12)
-        return -51;
-    int refusal =
-        order_of_list(side, points, 12, is_count_out(512, steps), is_curve_list_short(steps, list_len));
-    if (refusal != 0)
-        return -refusal;
-    if (step_too_long(points, steps))
-        return -15;
-    list_samples(points, steps, list);
-    return (answer)steps + 1;
-}
-
-answer direct_draw_curve(uint32_t side, const uint8_t *points, size_t points_len, uint32_t steps, uint8_t mark,
-                         uint8_t *grid, size_t grid_len)
-{
-    if (points_len != 12)
-        return -51;
-    int refusal = order_of_drawing(side, points, 12, grid_len, mark, is_count_out(512, steps));
-    if (refusal != 0)
-        return -refusal;
-    if (step_too_long(points, steps))
-        return -15;
-    mark_samples(side, points, steps, mark, grid);
-    return (answer)steps + 1;
-}
-
 /* Patches. */
 
 /* The control values along t of row j, times m³. */
@@ -179,34 +138,10 @@ static void mark_rows(uint32_t side, const uint8_t *points, uint32_t n, uint32_t
     }
 }
 
-answer direct_check_patch(uint32_t side, const uint8_t *points, size_t points_len, uint32_t n, uint32_t m)
-{
-    if (points_len != 48)
-        return -51;
-    int refusal = order_of_list(side, points, 48, is_count_out(256, n) || is_count_out(256, m), false);
-    if (refusal != 0)
-        return -refusal;
-    return patch_step_too_long(points, n, m) ? -15 : 0;
-}
-
-answer direct_draw_patch(uint32_t side, const uint8_t *points, size_t points_len, uint32_t n, uint32_t m, uint8_t mark,
-                         uint8_t *grid, size_t grid_len)
-{
-    if (points_len != 48)
-        return -51;
-    int refusal = order_of_drawing(side, points, 48, grid_len, mark, is_count_out(256, n) || is_count_out(256, m));
-    if (refusal != 0)
-        return -refusal;
-    if (patch_step_too_long(points, n, m))
-        return -15;
-    mark_rows(side, points, n, m, mark, grid);
-    return (answer)((n + 1) * (m + 1));
-}
-
 /* Swatches: the product of a float (24 bits) and side - 1 (6 bits) is exact in a double, and so is what is left of it
    above a whole number. */
 
-static int channel_refusal(float v)
+static int refusal_of_one(float v)
 {
     if (!isfinite(v))
         return 31;
@@ -215,10 +150,10 @@ static int channel_refusal(float v)
 
 static int refusal_of_three(float a, float b, float c)
 {
-    int refusal = channel_refusal(a);
+    int refusal = refusal_of_one(a);
     if (refusal == 0)
-        refusal = channel_refusal(b);
-    return refusal != 0 ? refusal : channel_refusal(c);
+        refusal = refusal_of_one(b);
+    return refusal != 0 ? refusal : refusal_of_one(c);
 }
 
 static inline uint8_t coordinate(uint32_t side, float v)
@@ -228,64 +163,12 @@ static inline uint8_t coordinate(uint32_t side, float v)
     return (uint8_t)(c + (exact - c > 0.5));
 }
 
-answer direct_to_cell(uint32_t side, uint32_t kind, float a, float b, float c, uint8_t *cell, size_t cell_len)
-{
-    if (kind > 1)
-        return -53;
-    if (cell_len != 3)
-        return -52;
-    if (!is_side(side))
-        return -11;
-    if (kind == 1)
-        b = c = a;
-    int refusal = refusal_of_three(a, b, c);
-    if (refusal != 0)
-        return -refusal;
-    cell[0] = coordinate(side, a);
-    cell[1] = coordinate(side, b);
-    cell[2] = coordinate(side, c);
-    return 0;
-}
-
 /* The definition is a float sum, rounded once, and a product: there is no more direct way. */
-answer direct_half_way(uint32_t kind, float a, float b, float c, uint32_t kind2, float a2, float b2, float c2,
-                       uint8_t *channels, size_t channels_len)
+static inline float mix(float a, float b)
 {
-    if (kind > 1 || kind2 > 1)
-        return -53;
-    if (channels_len != 12)
-        return -52;
-    if (kind == 1)
-        b = c = a;
-    if (kind2 == 1)
-        b2 = c2 = a2;
-    int refusal = refusal_of_three(a, b, c);
-    if (refusal == 0)
-        refusal = refusal_of_three(a2, b2, c2);
-    if (refusal != 0)
-        return -refusal;
-    float mixed[3] = {(a + a2) * 0.5f, (b + b2) * 0.5f, (c + c2) * 0.5f};
-    memcpy(channels, mixed, sizeof mixed); /* x86-64 has the low byte first */
-    return 0;
+    return (a + b) * 0.5f;
 }
 
-/* Sheets. */
-
+#define CALL(name) direct_##name
+#include "calls.h"
 #include "sheet.h"
-
-answer direct_draw_sheet(const uint8_t *input, size_t input_len, uint8_t *buffer, size_t buffer_len, uint8_t *detail,
-                         size_t detail_len)
-{
-    return draw_sheet(input, input_len, buffer, buffer_len, detail, detail_len);
-}
-
-answer direct_list_part(uint32_t side, const uint8_t *cube, size_t cube_len, size_t first, size_t count, uint8_t *text,
-                        size_t text_len)
-{
-    return list_part(side, cube, cube_len, first, count, text, text_len);
-}
-
-answer direct_refusal_line(uint32_t number, uint32_t line, uint8_t *text, size_t text_len)
-{
-    return refusal_line(number, line, text, text_len);
-}

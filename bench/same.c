@@ -1,9 +1,9 @@
 /* (a) The library's algorithm in C: integer forward differences of twice the value, a remainder from -N to N for each
    axis, the step test on differences before the first write, the same refusals in the same order. */
-#include "box.h"
-#include "order.h"
-
 #include <math.h>
+#include <stdbool.h>
+#include <stddef.h>
+#include <stdint.h>
 #include <string.h>
 
 #if defined(__GNUC__)
@@ -151,45 +151,6 @@ static void list_samples(const uint8_t *points, uint32_t n, uint8_t *list)
     }
 }
 
-answer same_check_curve(uint32_t side, const uint8_t *points, size_t points_len, uint32_t steps)
-{
-    if (points_len != 12)
-        return -51;
-    int refusal = order_of_list(side, points, 12, is_count_out(512, steps), false);
-    if (refusal != 0)
-        return -refusal;
-    return step_too_long(points, steps) ? -15 : 0;
-}
-
-answer same_list_curve(uint32_t side, const uint8_t *points, size_t points_len, uint32_t steps, uint8_t *list,
-                       size_t list_len)
-{
-    if (points_len != 12)
-        return -51;
-    int refusal =
-        order_of_list(side, points, 12, is_count_out(512, steps), is_curve_list_short(steps, list_len));
-    if (refusal != 0)
-        return -refusal;
-    if (step_too_long(points, steps))
-        return -15;
-    list_samples(points, steps, list);
-    return (answer)steps + 1;
-}
-
-answer same_draw_curve(uint32_t side, const uint8_t *points, size_t points_len, uint32_t steps, uint8_t mark,
-                       uint8_t *grid, size_t grid_len)
-{
-    if (points_len != 12)
-        return -51;
-    int refusal = order_of_drawing(side, points, 12, grid_len, mark, is_count_out(512, steps));
-    if (refusal != 0)
-        return -refusal;
-    if (step_too_long(points, steps))
-        return -15;
-    mark_samples(side, points, steps, mark, grid);
-    return (answer)steps + 1;
-}
-
 /* Patches. */
 
 /* One axis: cubics along u of the value at t = 0 and of its three differences along t. */
@@ -278,30 +239,6 @@ static void mark_rows(uint32_t side, const uint8_t *points, uint32_t n, uint32_t
     }
 }
 
-answer same_check_patch(uint32_t side, const uint8_t *points, size_t points_len, uint32_t n, uint32_t m)
-{
-    if (points_len != 48)
-        return -51;
-    int refusal = order_of_list(side, points, 48, is_count_out(256, n) || is_count_out(256, m), false);
-    if (refusal != 0)
-        return -refusal;
-    return patch_step_too_long(points, n, m) ? -15 : 0;
-}
-
-answer same_draw_patch(uint32_t side, const uint8_t *points, size_t points_len, uint32_t n, uint32_t m, uint8_t mark,
-                       uint8_t *grid, size_t grid_len)
-{
-    if (points_len != 48)
-        return -51;
-    int refusal = order_of_drawing(side, points, 48, grid_len, mark, is_count_out(256, n) || is_count_out(256, m));
-    if (refusal != 0)
-        return -refusal;
-    if (patch_step_too_long(points, n, m))
-        return -15;
-    mark_rows(side, points, n, m, mark, grid);
-    return (answer)((n + 1) * (m + 1));
-}
-
 /* Swatches. */
 
 static inline bool in_range(float v)
@@ -315,7 +252,11 @@ static inline int channel_refusal(float v)
     return isfinite(v) ? 32 : 31;
 }
 
-/* Of three channels: 0 if none applies. */
+static inline int refusal_of_one(float v)
+{
+    return in_range(v) ? 0 : channel_refusal(v);
+}
+
 static inline int refusal_of_three(float a, float b, float c)
 {
     if (in_range(a) && in_range(b) && in_range(c))
@@ -333,67 +274,11 @@ static inline uint8_t coordinate(uint32_t side, float v)
     return (uint8_t)((((w - 1) >> (shift < 31 ? shift : 31)) + 1) / 2);
 }
 
-answer same_to_cell(uint32_t side, uint32_t kind, float a, float b, float c, uint8_t *cell, size_t cell_len)
+static inline float mix(float a, float b)
 {
-    if (kind > 1)
-        return -53;
-    if (cell_len != 3)
-        return -52;
-    if (!is_side(side))
-        return -11;
-    if (kind == 1) {
-        if (!in_range(a))
-            return -channel_refusal(a);
-        cell[0] = cell[1] = cell[2] = coordinate(side, a);
-        return 0;
-    }
-    int refusal = refusal_of_three(a, b, c);
-    if (refusal != 0)
-        return -refusal;
-    cell[0] = coordinate(side, a);
-    cell[1] = coordinate(side, b);
-    cell[2] = coordinate(side, c);
-    return 0;
+    return (a + b) * 0.5f;
 }
 
-answer same_half_way(uint32_t kind, float a, float b, float c, uint32_t kind2, float a2, float b2, float c2,
-                     uint8_t *channels, size_t channels_len)
-{
-    if (kind > 1 || kind2 > 1)
-        return -53;
-    if (channels_len != 12)
-        return -52;
-    if (kind == 1)
-        b = c = a;
-    if (kind2 == 1)
-        b2 = c2 = a2;
-    int refusal = refusal_of_three(a, b, c);
-    if (refusal == 0)
-        refusal = refusal_of_three(a2, b2, c2);
-    if (refusal != 0)
-        return -refusal;
-    float mixed[3] = {(a + a2) * 0.5f, (b + b2) * 0.5f, (c + c2) * 0.5f};
-    memcpy(channels, mixed, sizeof mixed); /* x86-64 has the low byte first */
-    return 0;
-}
-
-/* Sheets. */
-
+#define CALL(name) same_##name
+#include "calls.h"
 #include "sheet.h"
-
-answer same_draw_sheet(const uint8_t *input, size_t input_len, uint8_t *buffer, size_t buffer_len, uint8_t *detail,
-                       size_t detail_len)
-{
-    return draw_sheet(input, input_len, buffer, buffer_len, detail, detail_len);
-}
-
-answer same_list_part(uint32_t side, const uint8_t *cube, size_t cube_len, size_t first, size_t count, uint8_t *text,
-                      size_t text_len)
-{
-    return list_part(side, cube, cube_len, first, count, text, text_len);
-}
-
-answer same_refusal_line(uint32_t number, uint32_t line, uint8_t *text, size_t text_len)
-{
-    return refusal_line(number, line, text, text_len);
-}

@@ -1,11 +1,12 @@
-/* Stroke sheets, read, judged and listed. The file that includes this one has two functions of its own before it:
-   step_too_long, and mark_samples, which draws an accepted curve. */
+/* Stroke sheets, read, judged and listed, for (a) and (b). The file that includes this one has calls.h before it, and
+   what that asks for. */
 #ifndef SHEET_H
 #define SHEET_H
 
-#include <string.h>
-
+#include "box.h"
 #include "order.h"
+
+#include <string.h>
 
 enum {
     BUFFER = 64000, /* bytes of a sheet's buffer */
@@ -125,8 +126,8 @@ static void draw_lines(const uint8_t *input, uint32_t side, uint32_t curves, uin
     }
 }
 
-static inline answer draw_sheet(const uint8_t *input, size_t len, uint8_t *buffer, size_t buffer_len, uint8_t *detail,
-                                size_t detail_len)
+answer CALL(draw_sheet)(const uint8_t *input, size_t len, uint8_t *buffer, size_t buffer_len, uint8_t *detail,
+                        size_t detail_len)
 {
     if (detail_len != 1)
         return -52;
@@ -190,8 +191,8 @@ static uint8_t *put_cells(size_t side, const uint8_t *cube, size_t first, size_t
     return text;
 }
 
-static inline answer list_part(uint32_t side, const uint8_t *cube, size_t cube_len, size_t first, size_t count,
-                               uint8_t *text, size_t text_len)
+answer CALL(list_part)(uint32_t side, const uint8_t *cube, size_t cube_len, size_t first, size_t count, uint8_t *text,
+                       size_t text_len)
 {
     static const char heading[] = "    X    Y    Z MARK\n";
     if (!is_side(side))
@@ -218,7 +219,7 @@ static inline void put_number(uint32_t v, uint8_t *text)
     }
 }
 
-static inline answer refusal_line(uint32_t number, uint32_t line, uint8_t *text, size_t text_len)
+answer CALL(refusal_line)(uint32_t number, uint32_t line, uint8_t *text, size_t text_len)
 {
     if (text_len < 18)
         return -22;

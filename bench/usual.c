@@ -1,10 +1,10 @@
 /* (c) What is usually written instead: float evaluation of the Bernstein form and rounding, no step test; sscanf and
-   sprintf for sheets. Lengths, sides, counts and marks are tried, so that no write goes astray; the step test and the
-   order of refusals are left out. */
-#include "box.h"
-#include "order.h"
-
+   sprintf for sheets. Lengths, sides, counts and marks are tried, so that no write goes astray; which number refuses a
+   swatch or a sheet is left rough. */
 #include <math.h>
+#include <stdbool.h>
+#include <stddef.h>
+#include <stdint.h>
 #include <stdio.h>
 #include <string.h>
 
@@ -30,40 +30,19 @@ static void mark_samples(uint32_t side, const uint8_t *points, uint32_t n, uint8
     }
 }
 
-answer usual_check_curve(uint32_t side, const uint8_t *points, size_t points_len, uint32_t steps)
+static void list_samples(const uint8_t *points, uint32_t n, uint8_t *list)
 {
-    if (points_len != 12)
-        return -51;
-    return -order_of_list(side, points, 12, is_count_out(512, steps), false);
-}
-
-answer usual_list_curve(uint32_t side, const uint8_t *points, size_t points_len, uint32_t steps, uint8_t *list,
-                        size_t list_len)
-{
-    if (points_len != 12)
-        return -51;
-    int refusal =
-        order_of_list(side, points, 12, is_count_out(512, steps), is_curve_list_short(steps, list_len));
-    if (refusal != 0)
-        return -refusal;
-    for (uint32_t i = 0; i <= steps; i++) {
-        float t = (float)i / (float)steps;
+    for (uint32_t i = 0; i <= n; i++) {
+        float t = (float)i / (float)n;
         for (int a = 0; a < 3; a++)
             *list++ = (uint8_t)rounded(points + a, t);
     }
-    return (answer)steps + 1;
 }
 
-answer usual_draw_curve(uint32_t side, const uint8_t *points, size_t points_len, uint32_t steps, uint8_t mark,
-                        uint8_t *grid, size_t grid_len)
+static inline bool step_too_long(const uint8_t *points, uint32_t n)
 {
-    if (points_len != 12)
-        return -51;
-    int refusal = order_of_drawing(side, points, 12, grid_len, mark, is_count_out(512, steps));
-    if (refusal != 0)
-        return -refusal;
-    mark_samples(side, points, steps, mark, grid);
-    return (answer)steps + 1;
+    (void)points, (void)n;
+    return false;
 }
 
 /* Patches. */
@@ -79,21 +58,8 @@ static inline size_t rounded_in_row(const float g[4], float t)
     return (size_t)lroundf(blend(t, g[0], g[1], g[2], g[3]));
 }
 
-answer usual_check_patch(uint32_t side, const uint8_t *points, size_t points_len, uint32_t n, uint32_t m)
+static void mark_rows(uint32_t side, const uint8_t *points, uint32_t n, uint32_t m, uint8_t mark, uint8_t *grid)
 {
-    if (points_len != 48)
-        return -51;
-    return -order_of_list(side, points, 48, is_count_out(256, n) || is_count_out(256, m), false);
-}
-
-answer usual_draw_patch(uint32_t side, const uint8_t *points, size_t points_len, uint32_t n, uint32_t m, uint8_t mark,
-                        uint8_t *grid, size_t grid_len)
-{
-    if (points_len != 48)
-        return -51;
-    int refusal = order_of_drawing(side, points, 48, grid_len, mark, is_count_out(256, n) || is_count_out(256, m));
-    if (refusal != 0)
-        return -refusal;
     for (uint32_t j = 0; j <= m; j++) {
         float gx[4], gy[4], gz[4], u = (float)j / (float)m;
         row_controls(points, u, gx);
@@ -105,10 +71,22 @@ answer usual_draw_patch(uint32_t side, const uint8_t *points, size_t points_len,
             grid[x + side * (y + side * z)] = mark;
         }
     }
-    return (answer)((n + 1) * (m + 1));
+}
+
+static inline bool patch_step_too_long(const uint8_t *points, uint32_t n, uint32_t m)
+{
+    (void)points, (void)n, (void)m;
+    return false;
 }
 
 /* Swatches. */
+
+static inline int refusal_of_one(float v)
+{
+    if (isnan(v))
+        return 31;
+    return v < 0 || v > 1 ? 32 : 0;
+}
 
 static int refusal_of_three(float a, float b, float c)
 {
@@ -122,46 +100,13 @@ static inline uint8_t coordinate(uint32_t side, float v)
     return (uint8_t)(v * (float)(side - 1) + 0.5f);
 }
 
-answer usual_to_cell(uint32_t side, uint32_t kind, float a, float b, float c, uint8_t *cell, size_t cell_len)
-{
-    if (cell_len != 3)
-        return -52;
-    if (!is_side(side))
-        return -11;
-    if (kind == 1)
-        b = c = a;
-    int refusal = refusal_of_three(a, b, c);
-    if (refusal != 0)
-        return -refusal;
-    cell[0] = coordinate(side, a);
-    cell[1] = coordinate(side, b);
-    cell[2] = coordinate(side, c);
-    return 0;
-}
-
 static inline float mix(float a, float b)
 {
     return a + (b - a) * 0.5f;
 }
 
-answer usual_half_way(uint32_t kind, float a, float b, float c, uint32_t kind2, float a2, float b2, float c2,
-                      uint8_t *channels, size_t channels_len)
-{
-    if (channels_len != 12)
-        return -52;
-    if (kind == 1)
-        b = c = a;
-    if (kind2 == 1)
-        b2 = c2 = a2;
-    int refusal = refusal_of_three(a, b, c);
-    if (refusal == 0)
-        refusal = refusal_of_three(a2, b2, c2);
-    if (refusal != 0)
-        return -refusal;
-    float mixed[3] = {mix(a, a2), mix(b, b2), mix(c, c2)};
-    memcpy(channels, mixed, sizeof mixed);
-    return 0;
-}
+#define CALL(name) usual_##name
+#include "calls.h"
 
 /* Sheets. */
 

@@ -3,19 +3,18 @@ use mathlib.Core.Path.{_≡_}
 use mathlib.Core.Bool.{cond}
 use mathlib.Core.List.{List}
 use Prim.Native.Nat.{ℕ}
-use lib.Dec.{eqb}
 use lib.IntN.{ℤ}
 use lib.ListN.{length}
 use Rattle.decide.specs.Refusal.{Verdict}
 use Rattle.drawing.specs.Object.{Object}
 use Rattle.drawing.specs.Refusals.{checkVerdict, drawVerdict, listVerdict, sampleCount}
 use Rattle.drawing.specs.Drawing.{drawn, listed}
-use Rattle.exports.specs.Signed.{signed, ofLength}
+use Rattle.exports.specs.Signed.{signed, otherLength, ofLength}
 
--- The signed answer, and what is lent: what the call leaves if the record has its length, and else what it held.
+-- The signed answer, and what is lent: what it held if the record has another length, and else what the call leaves.
 pub record Calls (size : ℕ) (bytes : List ℕ) (v : Verdict) (count : ℕ) (left before after : List ℕ) (r : ℤ) : Type 0 where
   pub answer : r ≡ signed (ofLength size bytes v) count
-  pub leaves : after ≡ cond (eqb (length bytes) size) left before
+  pub leaves : after ≡ cond (otherLength size bytes) before left
 
 -- A check: 0, or minus the number.
 abbrev pub ChecksBytes : (size S : ℕ) (o : Object) (r : ℤ) → Type 0

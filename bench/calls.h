@@ -1,0 +1,130 @@
+/* The functions of a box, around its own. The file that includes this one defines CALL, the name of a function with its
+   prefix, and before it:
+     curves    step_too_long, list_samples, mark_samples
+     patches   patch_step_too_long, mark_rows
+     swatches  refusal_of_one and refusal_of_three, 0 or the number of channels; coordinate; mix, of two channels */
+#ifndef CALLS_H
+#define CALLS_H
+
+#include "box.h"
+#include "order.h"
+
+#include <string.h>
+
+/* Curves. */
+
+answer CALL(check_curve)(uint32_t side, const uint8_t *points, size_t points_len, uint32_t steps)
+{
+    if (points_len != 12)
+        return -51;
+    int refusal = order_of_list(side, points, 12, is_count_out(512, steps), false);
+    if (refusal != 0)
+        return -refusal;
+    return step_too_long(points, steps) ? -15 : 0;
+}
+
+answer CALL(list_curve)(uint32_t side, const uint8_t *points, size_t points_len, uint32_t steps, uint8_t *list,
+                        size_t list_len)
+{
+    if (points_len != 12)
+        return -51;
+    int refusal =
+        order_of_list(side, points, 12, is_count_out(512, steps), is_curve_list_short(steps, list_len));
+    if (refusal != 0)
+        return -refusal;
+    if (step_too_long(points, steps))
+        return -15;
+    list_samples(points, steps, list);
+    return (answer)steps + 1;
+}
+
+answer CALL(draw_curve)(uint32_t side, const uint8_t *points, size_t points_len, uint32_t steps, uint8_t mark,
+                        uint8_t *grid, size_t grid_len)
+{
+    if (points_len != 12)
+        return -51;
+    int refusal = order_of_drawing(side, points, 12, grid_len, mark, is_count_out(512, steps));
+    if (refusal != 0)
+        return -refusal;
+    if (step_too_long(points, steps))
+        return -15;
+    mark_samples(side, points, steps, mark, grid);
+    return (answer)steps + 1;
+}
+
+/* Patches. */
+
+answer CALL(check_patch)(uint32_t side, const uint8_t *points, size_t points_len, uint32_t n, uint32_t m)
+{
+    if (points_len != 48)
+        return -51;
+    int refusal = order_of_list(side, points, 48, is_count_out(256, n) || is_count_out(256, m), false);
+    if (refusal != 0)
+        return -refusal;
+    return patch_step_too_long(points, n, m) ? -15 : 0;
+}
+
+answer CALL(draw_patch)(uint32_t side, const uint8_t *points, size_t points_len, uint32_t n, uint32_t m, uint8_t mark,
+                        uint8_t *grid, size_t grid_len)
+{
+    if (points_len != 48)
+        return -51;
+    int refusal = order_of_drawing(side, points, 48, grid_len, mark, is_count_out(256, n) || is_count_out(256, m));
+    if (refusal != 0)
+        return -refusal;
+    if (patch_step_too_long(points, n, m))
+        return -15;
+    mark_rows(side, points, n, m, mark, grid);
+    return (answer)((n + 1) * (m + 1));
+}
+
+/* Swatches. A grey's one channel is tried once. */
+
+static inline int refusal_of_swatch(uint32_t kind, float a, float b, float c)
+{
+    return kind == 1 ? refusal_of_one(a) : refusal_of_three(a, b, c);
+}
+
+answer CALL(to_cell)(uint32_t side, uint32_t kind, float a, float b, float c, uint8_t *cell, size_t cell_len)
+{
+    if (kind > 1)
+        return -53;
+    if (cell_len != 3)
+        return -52;
+    if (!is_side(side))
+        return -11;
+    int refusal = refusal_of_swatch(kind, a, b, c);
+    if (refusal != 0)
+        return -refusal;
+    if (kind == 1) {
+        cell[0] = cell[1] = cell[2] = coordinate(side, a);
+        return 0;
+    }
+    cell[0] = coordinate(side, a);
+    cell[1] = coordinate(side, b);
+    cell[2] = coordinate(side, c);
+    return 0;
+}
+
+answer CALL(half_way)(uint32_t kind, float a, float b, float c, uint32_t kind2, float a2, float b2, float c2,
+                      uint8_t *channels, size_t channels_len)
+{
+    if (kind > 1 || kind2 > 1)
+        return -53;
+    if (channels_len != 12)
+        return -52;
+    int refusal = refusal_of_swatch(kind, a, b, c);
+    if (refusal == 0)
+        refusal = refusal_of_swatch(kind2, a2, b2, c2);
+    if (refusal != 0)
+        return -refusal;
+    if (kind == 1)
+        b = c = a;
+    if (kind2 == 1)
+        b2 = c2 = a2;
+    float mixed[3] = {mix(a, a2), mix(b, b2), mix(c, c2)};
+    memcpy(channels, mixed, sizeof mixed); /* x86-64 has the low byte first */
+    return 0;
+}
+
+#endif
