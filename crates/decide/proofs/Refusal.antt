@@ -1,6 +1,6 @@
 -- The first number that applies, in words: no number exactly where no rule applies, and otherwise the number of a
 -- rule that applies while none before it does.
-use mathlib.Core.Path.{_≡_, refl, sym, _∙_}
+use mathlib.Core.Path.{_≡_, refl, sym, ap, _∙_}
 use mathlib.Core.Logic.{_↔_, _≢_, _⊎_, inl, inr, ⊎-elim}
 use mathlib.Core.Bool.{Bool, true, false, cond}
 use mathlib.Core.List.{List, [], _∷_, _++_}
@@ -122,3 +122,16 @@ both-accepted (refused k) w e = (e, cc)
 pub accepted-append : (a b : List Rule) →
     firstThat (a ++ b) ≡ accepted → (firstThat a ≡ accepted) × (firstThat b ≡ accepted)
 accepted-append a b e = both-accepted (firstThat a) (firstThat b) (sym (first-append a b) ∙ e)
+
+-- Three orders in a row answer the first's number, or else the second's, or else the third's.
+pub first-append-three : (a b c : List Rule) →
+    firstThat (a ++ (b ++ c)) ≡ orElse (firstThat a) (orElse (firstThat b) (firstThat c))
+first-append-three a b c = first-append a (b ++ c) ∙ ap (orElse (firstThat a)) (first-append b c)
+
+-- Where three orders in a row answer no number, none of them does.
+pub accepted-append-three : (a b c : List Rule) → firstThat (a ++ (b ++ c)) ≡ accepted →
+    (firstThat a ≡ accepted) × (firstThat b ≡ accepted) × (firstThat c ≡ accepted)
+accepted-append-three a b c e =
+    let r = accepted-append a (b ++ c) e in
+    let q = accepted-append b c (r .1) in
+    (r .0, q .0, q .1)

@@ -5,7 +5,7 @@ use Prim.Native.Nat.{ℕ}
 use lib.IntN.{ℤ}
 use Rattle.decide.specs.Refusal.{Rule, firstThat}
 use Rattle.decide.proofs.Refusal.{by-verdict}
-use Rattle.swatch.specs.declared.Rgb.{Rgb}
+use Rattle.channel.specs.declared.Rgb.{Rgb}
 use Rattle.swatch.specs.declared.Cell.{Cell}
 use Rattle.swatch.specs.declared.Swatch.{Swatch}
 use Rattle.swatch.proofs.Unique.{cell-unique, half-way-unique}

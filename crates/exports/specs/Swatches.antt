@@ -7,18 +7,20 @@ use lib.Dec.{eqb, ltb}
 use lib.IntN.{ℤ}
 use lib.Ieee.{Float, binary32, toBits}
 use Rattle.decide.specs.Refusal.{Rule, _when_, firstThat, accepted, refused}
-use Rattle.swatch.specs.declared.Rgb.{Rgb}
+use Rattle.channel.specs.declared.Rgb.{Rgb}
 use Rattle.swatch.specs.declared.Cell.{Cell}
 use Rattle.swatch.specs.declared.Swatch.{Swatch}
-use Rattle.swatch.specs.declared.Swatch.the-variants.{Color, Grey}
+use Rattle.swatch.specs.declared.Swatch.the-variants.{Color, Grey, Hue}
 use Rattle.swatch.specs.Swatch.{channelsOf}
 use Rattle.swatch.specs.ToCell.{IsCell, cellRefusals}
 use Rattle.swatch.specs.HalfWay.{IsHalfWay, halfWayRefusals}
 use Rattle.exports.specs.Signed.{signed, otherLength}
 
--- Kind 0 is a colour of three channels, kind 1 a grey, which is the first number.
+-- Kind 0 is a colour of three channels, kind 1 a grey, which is the first number, and kind 2 hue, saturation and value.
 abbrev pub swatchOf : (kind : ℕ) (a b c : Float) → Swatch
-swatchOf kind a b c = cond (eqb kind 0) (Color (record { red = a; green = b; blue = c })) (Grey a)
+swatchOf kind a b c =
+    cond (eqb kind 0) (Color (record { red = a; green = b; blue = c }))
+    (cond (eqb kind 1) (Grey a) (Hue (record { hue = a; saturation = b; value = c })))
 
 -- The four bytes of a channel, the low byte first.
 abbrev pub channelBytes : Float → List ℕ
@@ -27,7 +29,7 @@ channelBytes v =
 
 -- A kind of swatch that does not exist.
 abbrev pub noKind : (kind : ℕ) → Bool
-noKind kind = ltb 1 kind
+noKind kind = ltb 2 kind
 
 -- Swatch to cell: 53 and 52 come first, then the call's own numbers.
 abbrev pub cellOrder : (S kind : ℕ) (w : Swatch) (cell : List ℕ) → List Rule

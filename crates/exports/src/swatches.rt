@@ -8,12 +8,13 @@ ghost use lib.Ieee.{isNan};
 ghost use lib.ListN.{length, take, drop};
 ghost use Rattle.exports.specs.Swatches.{swatchOf, channelBytes, CellBytes, MixBytes};
 use crate::signed::refused;
+use channel::Rgb;
+use hsv::Hsv;
 use swatch::CellAnswer;
 use swatch::HalfWayAnswer;
-use swatch::Rgb;
 use swatch::Swatch;
 
-// Kind 0 is a colour, any other a grey.
+// Kind 0 is a colour, kind 1 a grey, any other a hue.
 fn swatch_of(kind: u32, a: f32, b: f32, c: f32) -> Swatch
     ensures { λ r. ⌜ r ≡ swatchOf kind a b c ⌝ }
 {
@@ -23,8 +24,14 @@ fn swatch_of(kind: u32, a: f32, b: f32, c: f32) -> Swatch
             green: b,
             blue: c,
         })
-    } else {
+    } else if kind == 1 {
         Swatch::Grey(a)
+    } else {
+        Swatch::Hue(Hsv {
+            hue: a,
+            saturation: b,
+            value: c,
+        })
     }
 }
 
@@ -39,7 +46,7 @@ pub extern "C" fn gidzkhalu_to_cell(
 ) -> i64
     ensures { λ r. ⌜ CellBytes side kind (swatchOf kind a b c) (now (cell .entry)) (now (cell .exit)) r ⌝ }
 {
-    if kind > 1 {
+    if kind > 2 {
         return refused(53);
     }
     if cell.len() != 3 {
@@ -71,10 +78,10 @@ pub extern "C" fn gidzkhalu_half_way(
     ensures { λ r. ⌜ MixBytes kind kind2 (swatchOf kind a b c) (swatchOf kind2 a2 b2 c2)
         (now (channels .entry)) (now (channels .exit)) r ⌝ }
 {
-    if kind > 1 {
+    if kind > 2 {
         return refused(53);
     }
-    if kind2 > 1 {
+    if kind2 > 2 {
         return refused(53);
     }
     if channels.len() != 12 {

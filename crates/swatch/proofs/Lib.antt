@@ -1,13 +1,3 @@
--- `Order`: the order of floats as fractions. `Range`: a channel has no refusal exactly where it lies from 0 to 1. `Bits`:
--- the value from the fields of the bits. `Owns`: a value has one cell. `Raised`: a small channel is raised to 1/128.
--- `Coordinate`: the coordinate from the bits. `Held`: rounding keeps the order. `HalfWay`: the half-way value lies
--- between. `Unique`: each contract fixes its answer.
-pub mod Order
+-- `Range`: the channels of an accepted swatch lie from 0 to 1. `Unique`: each contract fixes its answer.
 pub mod Range
-pub mod Bits
-pub mod Owns
-pub mod Raised
-pub mod Coordinate
-pub mod Held
-pub mod HalfWay
 pub mod Unique

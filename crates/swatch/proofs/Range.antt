@@ -1,94 +1,26 @@
--- A channel has no refusal exactly where it lies from 0 to 1: past 31 it is finite, and past 32 neither below 0 nor above
--- 1.
+-- The channels of a swatch with no refusal lie from 0 to 1.
 use mathlib.Core.Path.{_≡_, refl, sym, ap, _∙_, subst}
-use mathlib.Core.Bool.{Bool, true, false, _&&_}
-use mathlib.Core.List.{[], _∷_, _++_}
-use Prim.Native.Nat.{_+_, _*_, _≤_}
-use native.Mathlib.Omega.{arith}
-use borrow.Author.Tests.{ltb-false, le-ltb, not-false}
+use mathlib.Core.Bool.{true, _&&_}
 use lib.Dec.{T}
-use lib.Ieee.{Float, nan, inf, fin, up, down, lt}
-use lib.Ieee.Fits.{up-pos}
-use lib.Ieee.Scale.{finite}
-use Rattle.decide.specs.Refusal.{Verdict, _when_, firstThat, orElse, accepted, refused}
-use Rattle.decide.proofs.Truth.{both, both-false}
-use Rattle.decide.proofs.Refusal.{first-passes, first-empty, accepted-passes, first-append, accepted-append}
-use Rattle.swatch.specs.declared.Rgb.{Rgb}
-use Rattle.swatch.specs.Channel.{zero32, one32, inRange, infiniteOrNan, outside, channelRefusals}
+use lib.Ieee.{Float}
+use Rattle.decide.specs.Refusal.{Verdict, firstThat, orElse, accepted, refused}
+use Rattle.decide.proofs.Truth.{both}
+use Rattle.decide.proofs.Refusal.{first-append-three, accepted-append-three}
+use Rattle.channel.specs.Channel.{inRange, channelRefusals}
+use Rattle.channel.specs.Rgb.{rgbRefusals, AllInRange}
+use Rattle.channel.proofs.Range.{range-accepted, channel-in-range}
+use Rattle.channel.specs.declared.Rgb.{Rgb}
+use Rattle.hsv.proofs.InRange.{channels-in-range, hsv-in-range}
 use Rattle.swatch.specs.declared.Swatch.{Swatch}
-use Rattle.swatch.specs.declared.Swatch.the-variants.{Grey}
-use Rattle.swatch.specs.Swatch.{channelsOf, rgbRefusals, swatchRefusals, AllInRange}
-use Rattle.swatch.proofs.Order.{zero-size, size-zero, range-of, range-nonneg, range-le-one}
-
--- The finite values are those between the two infinities.
-pub finite-between : (v : Float) → (lt (inf true) v && lt v (inf false)) ≡ finite v
-unfolding lt
-finite-between nan = refl
-finite-between (inf true) = refl
-finite-between (inf false) = refl
-finite-between (fin s m e) = refl
-
--- A finite value that is not outside lies from 0 to 1.
-inside : (v : Float) → T (finite v) → outside v ≡ false → T (inRange v)
-unfolding outside
-inside nan F h = absurd F
-inside (inf s) F h = absurd F
-inside (fin true m e) F h =
-    let r = both-false (lt (fin true m e) zero32) (lt one32 (fin true m e)) h in
-    let a : m * up e * 1 + 0 * down e ≤ 0 = ltb-false 0 (m * up e * 1 + 0 * down e) (r .0) in
-    range-of (fin true m e) (λ k. size-zero m (up e) (up-pos e) (omega arith)) (omega arith)
-inside (fin false m e) F h =
-    let r = both-false (lt (fin false m e) zero32) (lt one32 (fin false m e)) h in
-    let a : m * up e * 1 ≤ 1 * down e = ltb-false (1 * down e) (m * up e * 1) (r .1) in
-    range-of (fin false m e) (λ k. absurd k) (omega arith)
-
--- A finite value that does not lie from 0 to 1 is outside.
-pub refused-outside : (v : Float) → infiniteOrNan v ≡ false → inRange v ≡ false → outside v ≡ true
-refused-outside v F h = go (outside v) refl
-  where
-    go : (b : Bool) → outside v ≡ b → b ≡ true
-    go true e = refl
-    go false e = absurd (subst T h (inside v (subst T (sym (not-false (finite v) F)) tt) e))
-
--- A value from 0 to 1 is finite.
-range-finite : (v : Float) → T (inRange v) → infiniteOrNan v ≡ false
-range-finite nan h = absurd (range-nonneg nan h)
-range-finite (inf s) h = absurd (range-nonneg (inf s) h)
-range-finite (fin s m e) h = refl
-
--- It is not outside.
-not-outside : (v : Float) → T (inRange v) → outside v ≡ false
-unfolding outside
-not-outside nan h = absurd (range-nonneg nan h)
-not-outside (inf s) h = absurd (range-nonneg (inf s) h)
-not-outside (fin true m e) h =
-    let z = zero-size m (up e) 1 (range-nonneg (fin true m e) h tt) in
-    rw (le-ltb 0 (m * up e * 1 + 0 * down e) (omega arith))
-not-outside (fin false m e) h =
-    let l = range-le-one (fin false m e) h in
-    rw (le-ltb (m * up e * 1) (0 * down e) (omega arith), le-ltb (1 * down e) (m * up e * 1) (omega arith))
-
--- It has no refusal.
-pub range-accepted : (v : Float) → T (inRange v) → firstThat (channelRefusals v) ≡ accepted
-range-accepted v h =
-    first-passes 31 (infiniteOrNan v) (32 when outside v ∷ []) (range-finite v h)
-    ∙ first-passes 32 (outside v) [] (not-outside v h) ∙ first-empty
-
--- A channel with no refusal lies from 0 to 1.
-pub channel-in-range : (v : Float) → firstThat (channelRefusals v) ≡ accepted → T (inRange v)
-channel-in-range v h =
-    let r = accepted-passes 31 (infiniteOrNan v) (32 when outside v ∷ []) h in
-    let q = accepted-passes 32 (outside v) [] (r .1) in
-    inside v (subst T (sym (not-false (finite v) (r .0))) tt) (q .0)
+use Rattle.swatch.specs.declared.Swatch.the-variants.{Color, Grey, Hue}
+use Rattle.swatch.specs.Swatch.{channelsOf, swatchRefusals}
 
 -- The number of three channels is red's, or else green's, or else blue's.
 pub rgb-first : (c : Rgb) → firstThat (rgbRefusals c)
     ≡ orElse (firstThat (channelRefusals (c .red)))
     (orElse (firstThat (channelRefusals (c .green))) (firstThat (channelRefusals (c .blue))))
 rgb-first c =
-    first-append (channelRefusals (c .red)) (channelRefusals (c .green) ++ channelRefusals (c .blue))
-    ∙ ap (orElse (firstThat (channelRefusals (c .red))))
-    (first-append (channelRefusals (c .green)) (channelRefusals (c .blue)))
+    first-append-three (channelRefusals (c .red)) (channelRefusals (c .green)) (channelRefusals (c .blue))
 
 -- The number of a grey is that of its one channel.
 pub grey-first : (g : Float) → firstThat (swatchRefusals (Grey g)) ≡ firstThat (channelRefusals g)
@@ -109,14 +41,16 @@ rgb-accepted c e =
 -- Three channels with no refusal lie from 0 to 1.
 pub rgb-in-range : (c : Rgb) → firstThat (rgbRefusals c) ≡ accepted → AllInRange c
 rgb-in-range c h =
-    let r = accepted-append (channelRefusals (c .red)) (channelRefusals (c .green) ++ channelRefusals (c .blue)) h in
-    let g = accepted-append (channelRefusals (c .green)) (channelRefusals (c .blue)) (r .1) in
+    let r =
+    accepted-append-three (channelRefusals (c .red)) (channelRefusals (c .green)) (channelRefusals (c .blue)) h in
     record {
       red = channel-in-range (c .red) (r .0);
-      green = channel-in-range (c .green) (g .0);
-      blue = channel-in-range (c .blue) (g .1);
+      green = channel-in-range (c .green) (r .1);
+      blue = channel-in-range (c .blue) (r .2);
     }
 
 -- The channels of a swatch with no refusal lie from 0 to 1.
 pub swatch-in-range : (w : Swatch) → firstThat (swatchRefusals w) ≡ accepted → AllInRange (channelsOf w)
-swatch-in-range w h = rgb-in-range (channelsOf w) h
+swatch-in-range (Color c) h = rgb-in-range c h
+swatch-in-range (Grey g) h = rgb-in-range (channelsOf (Grey g)) h
+swatch-in-range (Hue w) h = channels-in-range w (hsv-in-range w h)

@@ -3,17 +3,17 @@ use mathlib.Core.Path.{_≡_, sym, _∙_, ap}
 use Prim.Native.Nat.{ℕ, _-_, _*_}
 use lib.Ieee.{Float}
 use lib.Ieee.Positive.{num, den}
-use Rattle.swatch.specs.declared.Rgb.{Rgb}
+use Rattle.channel.specs.declared.Rgb.{Rgb}
 use Rattle.swatch.specs.declared.Cell.{Cell}
 use Rattle.swatch.specs.declared.Swatch.{Swatch}
 use Rattle.swatch.specs.declared.CellAnswer.{CellAnswer}
 use Rattle.swatch.specs.declared.CellAnswer.the-variants as cell
 use Rattle.swatch.specs.declared.HalfWayAnswer.{HalfWayAnswer}
 use Rattle.swatch.specs.declared.HalfWayAnswer.the-variants as half
-use Rattle.swatch.specs.Coordinate.{IsCoordinate}
+use Rattle.channel.specs.Coordinate.{IsCoordinate}
 use Rattle.swatch.specs.ToCell.{IsCell, CellSays}
 use Rattle.swatch.specs.HalfWay.{IsHalfWay, HalfWaySays}
-use Rattle.swatch.proofs.Owns.{owns-unique}
+use Rattle.channel.proofs.Owns.{owns-unique}
 
 -- A channel has one coordinate.
 pub coordinate-unique : (S : ℕ) (v : Float) (b c : ℕ) → IsCoordinate S v b → IsCoordinate S v c → b ≡ c

@@ -1,30 +1,22 @@
--- Document 01's swatches: either three channels, or a single grey that stands for three equal channels.
-use mathlib.Core.List.{List, _++_}
-use lib.Dec.{T}
+-- Swatches: three channels, a single grey that stands for three equal channels (document 01), or hue, saturation and value
+-- (document 02, A.1).
+use mathlib.Core.List.{List}
 use Rattle.decide.specs.Refusal.{Rule}
-use Rattle.swatch.specs.declared.Rgb.{Rgb}
+use Rattle.channel.specs.declared.Rgb.{Rgb}
+use Rattle.channel.specs.Rgb.{rgbRefusals}
+use Rattle.hsv.specs.Hue.{hsvRefusals}
+use Rattle.hsv.specs.Channels.{hsvChannels}
 use Rattle.swatch.specs.declared.Swatch.{Swatch}
-use Rattle.swatch.specs.declared.Swatch.the-variants.{Color, Grey}
-use Rattle.swatch.specs.Channel.{inRange, channelRefusals}
+use Rattle.swatch.specs.declared.Swatch.the-variants.{Color, Grey, Hue}
 
 -- The channels of a swatch.
 abbrev pub channelsOf : Swatch → Rgb
 channelsOf (Color c) = c
 channelsOf (Grey g) = record { red = g; green = g; blue = g }
+channelsOf (Hue w) = hsvChannels w
 
--- Red, green, blue, each 31 then 32.
-abbrev pub rgbRefusals : Rgb → List Rule
-rgbRefusals c =
-    channelRefusals (c .red)
-    ++ (channelRefusals (c .green)
-    ++ channelRefusals (c .blue))
-
--- The refusals of a swatch.
+-- The refusals of a swatch: those of its channels, or of hue, saturation and value in turn.
 abbrev pub swatchRefusals : Swatch → List Rule
-swatchRefusals w = rgbRefusals (channelsOf w)
-
--- Three channels from 0 to 1.
-pub record AllInRange (c : Rgb) : Type 0 where
-  pub red : T (inRange (c .red))
-  pub green : T (inRange (c .green))
-  pub blue : T (inRange (c .blue))
+swatchRefusals (Color c) = rgbRefusals c
+swatchRefusals (Grey g) = rgbRefusals (channelsOf (Grey g))
+swatchRefusals (Hue w) = hsvRefusals w

@@ -4,15 +4,15 @@ use mathlib.Core.Path.{_≡_}
 use mathlib.Core.List.{List, _∷_}
 use Rattle.cube.specs.Cube.{sideOut}
 use Rattle.decide.specs.Refusal.{Rule, _when_, firstThat, accepted, refused}
-use Rattle.swatch.specs.declared.Rgb.{Rgb}
+use Rattle.channel.specs.declared.Rgb.{Rgb}
 use Rattle.swatch.specs.declared.Cell.{Cell}
 use Rattle.swatch.specs.declared.Swatch.{Swatch}
 use Rattle.swatch.specs.declared.CellAnswer.{CellAnswer}
 use Rattle.swatch.specs.declared.CellAnswer.the-variants.{Refused, Found}
-use Rattle.swatch.specs.Coordinate.{IsCoordinate}
+use Rattle.channel.specs.Coordinate.{IsCoordinate}
 use Rattle.swatch.specs.Swatch.{channelsOf, swatchRefusals}
 
--- 11, then red, green, blue, each 31 then 32.
+-- 11, then the swatch's.
 abbrev pub cellRefusals : ℕ → Swatch → List Rule
 cellRefusals S w =
     11 when sideOut S

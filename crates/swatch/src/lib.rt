@@ -1,27 +1,24 @@
-// Swatches: colours given as f32 channels, which become cells of the colour cube or are mixed half-way.
-mod channel;
-
+// Swatches: colours given as f32 channels, or as hue, saturation and value, which become cells of the colour cube or are
+// mixed half-way.
 ghost use mathlib.Core.Path.{_≡_};
 ghost use mathlib.Core.Bool.{false, _&&_};
 ghost use Prim.Native.Nat.{_≤_};
-ghost use Rattle.decide.specs.Refusal.{firstThat, refused};
+ghost use Rattle.decide.specs.Refusal.{firstThat, accepted, refused};
+ghost use Rattle.hsv.specs.Hue.{hsvRefusals};
 ghost use Rattle.swatch.specs.Verdict.{verdictOf};
-ghost use Rattle.swatch.specs.Channel.{inRange, channelRefusals};
-ghost use Rattle.swatch.specs.Swatch.{channelsOf, rgbRefusals, swatchRefusals, AllInRange};
+ghost use Rattle.channel.specs.Channel.{inRange, channelRefusals};
+ghost use Rattle.channel.specs.Rgb.{rgbRefusals, AllInRange};
+ghost use Rattle.swatch.specs.Swatch.{channelsOf, swatchRefusals};
 ghost use Rattle.swatch.specs.ToCell.{IsCell, CellSays};
 ghost use Rattle.swatch.specs.HalfWay.{IsHalfWay, HalfWaySays};
+use channel::Rgb;
+use hsv::Hsv;
 
-// Three f32 channels.
-pub struct Rgb {
-    pub red: f32,
-    pub green: f32,
-    pub blue: f32,
-}
-
-// Three channels, or a grey that stands for three equal ones.
+// Three channels, a grey that stands for three equal ones, or hue, saturation and value.
 pub enum Swatch {
     Color(Rgb),
     Grey(f32),
+    Hue(Hsv),
 }
 
 // A cell of the colour cube.
@@ -49,7 +46,8 @@ enum Verdict {
     Refused(u32),
 }
 
-// The cell of a swatch in the cube of the given side. Refused: 11 for the side, then 31 or 32 for red, green and blue.
+// The cell of a swatch in the cube of the given side. Refused: 11 for the side, then the swatch's number: 31 or 32 for red,
+// green and blue, or 31 or 33 for a hue and 31 or 32 for its saturation and value.
 pub fn to_cell(side: u32, swatch: Swatch) -> CellAnswer
     ensures { λ r. ⌜ CellSays side swatch r ⌝ }
 {
@@ -62,7 +60,7 @@ pub fn to_cell(side: u32, swatch: Swatch) -> CellAnswer
     }
 }
 
-// The swatch half-way between two. Refused: 31 or 32 for the channels of the first, then of the second.
+// The swatch half-way between two. Refused: the number of the first, then of the second.
 pub fn half_way(a: Swatch, b: Swatch) -> HalfWayAnswer
     ensures { λ r. ⌜ HalfWaySays a b r ⌝ }
 {
@@ -75,8 +73,9 @@ pub fn half_way(a: Swatch, b: Swatch) -> HalfWayAnswer
     }
 }
 
-// The three channels that a swatch stands for.
+// The three channels that an accepted swatch stands for.
 fn channels(swatch: Swatch) -> Rgb
+    requires { ⌜ firstThat (swatchRefusals swatch) ≡ accepted ⌝ }
     ensures { λ r. ⌜ r ≡ channelsOf swatch ⌝ }
 {
     match swatch {
@@ -86,6 +85,7 @@ fn channels(swatch: Swatch) -> Rgb
             green: g,
             blue: g,
         },
+        Swatch::Hue(w) => hsv::channels(w),
     }
 }
 
@@ -96,6 +96,7 @@ fn swatch_verdict(swatch: Swatch) -> Verdict
     match swatch {
         Swatch::Color(c) => rgb_verdict(c),
         Swatch::Grey(g) => channel_verdict(g),
+        Swatch::Hue(w) => hsv_verdict(w),
     }
 }
 
@@ -107,6 +108,19 @@ fn rgb_verdict(c: Rgb) -> Verdict
         return Verdict::Accepted;
     }
     Verdict::Refused(rgb_number(c))
+}
+
+// The first refusal of hue, saturation and value.
+fn hsv_verdict(w: Hsv) -> Verdict
+    ensures { λ r. ⌜ verdictOf r ≡ firstThat (hsvRefusals w) ⌝ }
+{
+    if !hsv::is_accepted(w.hue) {
+        return Verdict::Refused(hsv::number(w.hue));
+    }
+    match channel_verdict(w.saturation) {
+        Verdict::Refused(n) => Verdict::Refused(n),
+        Verdict::Accepted => channel_verdict(w.value),
+    }
 }
 
 // The first refusal of one channel.
@@ -143,7 +157,7 @@ fn rgb_number(c: Rgb) -> u32
 // The cell of an accepted swatch. A grey's one coordinate is worked out once.
 fn swatch_cell(side: u32, swatch: Swatch) -> Cell
     requires { ⌜ (2 ≤ side) × (side ≤ 64) ⌝ }
-    requires { ⌜ AllInRange (channelsOf swatch) ⌝ }
+    requires { ⌜ firstThat (swatchRefusals swatch) ≡ accepted ⌝ }
     ensures { λ r. ⌜ IsCell side (channelsOf swatch) r ⌝ }
 {
     match swatch {
@@ -152,6 +166,7 @@ fn swatch_cell(side: u32, swatch: Swatch) -> Cell
             let v = channel::coordinate(side, g);
             Cell { x: v, y: v, z: v }
         }
+        Swatch::Hue(w) => rgb_cell(side, hsv::channels(w)),
     }
 }
 

@@ -22,7 +22,7 @@ ghost use lib.Ieee.{binary32, ofBits, toBits};
 use cases::block::Progress;
 use swatch::CellAnswer;
 use swatch::HalfWayAnswer;
-use swatch::Rgb;
+
 use swatch::Swatch;
 
 // An answer's letter and numbers, which are written in hexadecimal or in decimal digits.

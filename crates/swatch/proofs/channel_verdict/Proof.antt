@@ -2,7 +2,7 @@
 use mathlib.Core.Path.{sym, _∙_, subst}
 use borrow.Author.Needs.{needs}
 use lib.Dec.{T}
-use Rattle.swatch.proofs.Range.{range-accepted}
+use Rattle.channel.proofs.Range.{range-accepted}
 use Rattle.swatch.proofs.channel_verdict.Statement.{statement}
 use Rattle.swatch.proofs.channel_verdict.Tie as tie
 

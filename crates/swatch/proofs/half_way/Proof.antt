@@ -70,10 +70,10 @@ enum-told-2 : tie.Need-enum-told-2
 enum-told-2 c = search needs
 
 channels-requires : tie.Need-channels-requires
-channels-requires c κs = search needs
+channels-requires c κs = first (c .before .before .before)
 
 channels-requires-2 : tie.Need-channels-requires-2
-channels-requires-2 c κs = search needs
+channels-requires-2 c κs = second (c .before)
 
 pub half-way-spec : {M : Type 1} → statement M
 half-way-spec =

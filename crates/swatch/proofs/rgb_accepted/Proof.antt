@@ -3,7 +3,7 @@ use mathlib.Core.Path.{_≡_, sym, _∙_}
 use mathlib.Core.Bool.{_&&_}
 use mathlib.Core.Logic.{⊎-elim}
 use borrow.Author.Needs.{needs}
-use Rattle.swatch.specs.Channel.{inRange}
+use Rattle.channel.specs.Channel.{inRange}
 use Rattle.swatch.proofs.rgb_accepted.Statement.{statement}
 use Rattle.swatch.proofs.rgb_accepted.Tie as tie
 

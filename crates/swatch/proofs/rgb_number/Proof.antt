@@ -4,8 +4,9 @@ use borrow.Author.Needs.{needs}
 use borrow.Author.Tests.{not-true, not-false}
 use lib.Dec.{T}
 use Rattle.decide.proofs.Truth.{true-of}
-use Rattle.swatch.specs.Channel.{inRange}
-use Rattle.swatch.proofs.Range.{range-accepted, rgb-first}
+use Rattle.channel.specs.Channel.{inRange}
+use Rattle.channel.proofs.Range.{range-accepted}
+use Rattle.swatch.proofs.Range.{rgb-first}
 use Rattle.swatch.proofs.rgb_number.Statement.{statement}
 use Rattle.swatch.proofs.rgb_number.Tie as tie
 

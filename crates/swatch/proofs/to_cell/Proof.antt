@@ -10,7 +10,6 @@ use Rattle.swatch.specs.Verdict.{verdictOf}
 use Rattle.swatch.specs.Swatch.{swatchRefusals}
 use Rattle.cube.specs.Cube.{sideOut}
 use Rattle.swatch.specs.ToCell.{cellRefusals}
-use Rattle.swatch.proofs.Range.{swatch-in-range}
 use Rattle.swatch.proofs.to_cell.Statement.{statement}
 use Rattle.swatch.proofs.to_cell.Tie as tie
 
@@ -53,7 +52,7 @@ swatch-cell-requires : tie.Need-swatch-cell-requires
 swatch-cell-requires c κs =
     let s = c .before .before .before in (
       (s .before .if1 .left, ltb-false 64 (s .before .before .args .side) (s .if2 .left)),
-      swatch-in-range (s .before .before .args .swatch) (is-accepted c),
+      is-accepted c,
     )
 
 returns-2 : tie.Need-returns-2

@@ -27,7 +27,7 @@ refused-requires c κs = search needs
 
 returns : tie.Need-returns
 returns c =
-    fills-refused 53 (first-applies 53 _ _ (rw (lt-ltb 1 _ (c .before .if1 .taken))))
+    fills-refused 53 (first-applies 53 _ _ (rw (lt-ltb 2 _ (c .before .if1 .taken))))
     (small-read (c .refused .ensures .0) (c .refused .ensures .1) .0)
 
 refused-requires-2 : tie.Need-refused-requires-2
@@ -36,7 +36,7 @@ refused-requires-2 c κs = search needs
 returns-2 : tie.Need-returns-2
 returns-2 c =
     let e = c .before in
-    fills-refused 53 (first-applies 53 _ _ (rw (le-ltb 1 _ (e .before .if1 .left), lt-ltb 1 _ (e .if2 .taken))))
+    fills-refused 53 (first-applies 53 _ _ (rw (le-ltb 2 _ (e .before .if1 .left), lt-ltb 2 _ (e .if2 .taken))))
     (small-read (c .refused2 .ensures .0) (c .refused2 .ensures .1) .0)
 
 refused-requires-3 : tie.Need-refused-requires-3
@@ -48,7 +48,7 @@ returns-3 c =
     let s = e .before .before .before .before .args in
     fills-refused 52
     (other-length 12 (s .channels .now) (noKind (s .kind) || noKind (s .kind2)) _
-    (rw (le-ltb 1 (s .kind) (e .before .before .if1 .left), le-ltb 1 (s .kind2) (e .before .if2 .left)))
+    (rw (le-ltb 2 (s .kind) (e .before .before .if1 .left), le-ltb 2 (s .kind2) (e .before .if2 .left)))
     (λ t. omega (arith, t, e .if3 .taken)))
     (small-read (c .refused3 .ensures .0) (c .refused3 .ensures .1) .0)
 
@@ -88,7 +88,7 @@ module _ (t : tie.After-half-way) where
       ≡ firstThat (halfWayRefusals first second)
   own =
       own-numbers 12 (start .args .channels .now) _ _
-      (rw (le-ltb 1 _ (t .before .before .before .before .before .if1 .left), le-ltb 1 _ (t .before .before .before .before .if2 .left)))
+      (rw (le-ltb 2 _ (t .before .before .before .before .before .if1 .left), le-ltb 2 _ (t .before .before .before .before .if2 .left)))
       twelve
 
   says : HalfWaySays first second (t .half-way .result)

@@ -19,7 +19,7 @@ refused-requires c κs = search needs
 
 returns : tie.Need-returns
 returns c =
-    fills-refused 53 (first-applies 53 _ _ (lt-ltb 1 _ (c .before .if1 .taken)))
+    fills-refused 53 (first-applies 53 _ _ (lt-ltb 2 _ (c .before .if1 .taken)))
     (small-read (c .refused .ensures .0) (c .refused .ensures .1) .0)
 
 refused-requires-2 : tie.Need-refused-requires-2
@@ -28,7 +28,7 @@ refused-requires-2 c κs = search needs
 returns-2 : tie.Need-returns-2
 returns-2 c =
     let e = c .before in
-    fills-refused 52 (other-length 3 (e .before .before .before .args .cell .now) _ _ (le-ltb 1 _ (e .before .if1 .left)) (λ t. omega (arith, t, e .if2 .taken)))
+    fills-refused 52 (other-length 3 (e .before .before .before .args .cell .now) _ _ (le-ltb 2 _ (e .before .if1 .left)) (λ t. omega (arith, t, e .if2 .taken)))
     (small-read (c .refused2 .ensures .0) (c .refused2 .ensures .1) .0)
 
 swatch-of-requires : tie.Need-swatch-of-requires
@@ -59,7 +59,7 @@ module _ (t : tie.After-to-cell) where
 
   own : firstThat (cellOrder (start .args .side) (start .args .kind) swatch (start .args .cell .now))
       ≡ firstThat (cellRefusals (start .args .side) swatch)
-  own = own-numbers 3 (start .args .cell .now) _ _ (le-ltb 1 _ (t .before .before .before .if1 .left)) three
+  own = own-numbers 3 (start .args .cell .now) _ _ (le-ltb 2 _ (t .before .before .before .if1 .left)) three
 
   says : CellSays (start .args .side) swatch (t .to-cell .result)
   says = rw (t .before .swatch-of .ensures) at (t .to-cell .ensures)
