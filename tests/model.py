@@ -2,7 +2,8 @@
 
 Whole numbers and fractions are exact throughout; there are no differences and no remainders here.  Imported, the module
 gives the expected answers of test programs.  Run as `python3 tests/model.py`, it checks itself on document 01's samples
-and exits with 1 if a check fails.  Quoted words are document 01's, and for demand 3 also the demand's own.
+and exits with 1 if a check fails.  Quoted words are document 01's, for demand 3 also the demand's own, and for hues
+document 02's.
 """
 
 import random
@@ -222,6 +223,14 @@ class Grey(NamedTuple):
     grey: int
 
 
+class Hsv(NamedTuple):
+    """A swatch of "hue h, at least 0 and below 6, saturation s and value v" (document 02, A.1)."""
+
+    hue: int
+    saturation: int
+    value: int
+
+
 INFINITY = 0x7F800000
 MINUS_ZERO = 0x80000000
 
@@ -251,16 +260,42 @@ def encode(exact):
     return min((exponent - 1 << 23) + whole, INFINITY)
 
 
+def times(a, b):
+    """The pattern of a product, "rounded once": minus zero where the signs differ, as one factor is then a zero."""
+    return encode(abs(decode(a) * decode(b))) | (a ^ b) & MINUS_ZERO
+
+
+def one_less(a):
+    """The pattern of 1 - a, "rounded once", for an a up to 1."""
+    return encode(1 - decode(a))
+
+
+def hsv_channels(w):
+    """Red, green and blue "for k from 0 to 5", with "k the whole part of h and f = h - k"."""
+    k = decode(w.hue) // 1
+    f = encode(decode(w.hue) - k)
+    v, s = w.value, w.saturation
+    p = times(v, one_less(s))
+    q = times(v, one_less(times(s, f)))
+    r = times(v, one_less(times(s, one_less(f))))
+    return (Rgb(v, r, p), Rgb(q, v, p), Rgb(p, v, r), Rgb(p, q, v), Rgb(r, p, v), Rgb(v, p, q))[k]
+
+
 def channels(swatch):
-    """Red, green and blue of either kind of swatch."""
-    return Rgb(*swatch * 3) if isinstance(swatch, Grey) else swatch
+    """Red, green and blue of an accepted swatch of any kind."""
+    if isinstance(swatch, Grey):
+        return Rgb(*swatch * 3)
+    return hsv_channels(swatch) if isinstance(swatch, Hsv) else swatch
 
 
-def channel_ladder(swatch):
-    """The numbers for "red, green, blue, each 31 then 32"; "minus zero counts as 0"."""
-    for bits in channels(swatch):
+def swatch_ladder(swatch):
+    """The numbers for "red, green, blue, each 31 then 32", "minus zero counts as 0"; or for "h, s, v in turn"."""
+    for place, bits in enumerate(channels(swatch) if isinstance(swatch, Grey) else swatch):
         yield 31, lambda bits=bits: decode(bits) is None
-        yield 32, lambda bits=bits: not 0 <= decode(bits) <= 1
+        if isinstance(swatch, Hsv) and place == 0:
+            yield 33, lambda bits=bits: not 0 <= decode(bits) < 6
+        else:
+            yield 32, lambda bits=bits: not 0 <= decode(bits) <= 1
 
 
 def channel_coordinate(side, bits):
@@ -270,8 +305,8 @@ def channel_coordinate(side, bits):
 
 
 def swatch_cell(side, swatch):
-    """(refusal, None) by the order "11, then red, green, blue", or (None, cell)."""
-    refusal = first_refusal((11, lambda: not 2 <= side <= 64), *channel_ladder(swatch))
+    """(refusal, None) by the order 11, then the swatch's, or (None, cell)."""
+    refusal = first_refusal((11, lambda: not 2 <= side <= 64), *swatch_ladder(swatch))
     if refusal is not None:
         return refusal, None
     return None, tuple(channel_coordinate(side, bits) for bits in channels(swatch))
@@ -286,7 +321,7 @@ def half_way_channel(a, b):
 
 def half_way(first, second):
     """(refusal, None) by the order "first swatch, then second", or (None, Rgb)."""
-    refusal = first_refusal(*channel_ladder(first), *channel_ladder(second))
+    refusal = first_refusal(*swatch_ladder(first), *swatch_ladder(second))
     if refusal is not None:
         return refusal, None
     return None, Rgb(*map(half_way_channel, channels(first), channels(second)))
@@ -782,6 +817,60 @@ def check_half_way(checks):
         checks.equal(group, f"encode {wide:#x}", encode(decode(wide)), wide)
 
 
+def machine_channels(h, s, v):
+    """A hue's channels by machine floats, each operation rounded to f32."""
+    k = int(f32(h))
+
+    def rounded(number):
+        return f32(f32_bits(number))
+
+    f = rounded(f32(h) - k)
+    p = rounded(f32(v) * rounded(1 - f32(s)))
+    q = rounded(f32(v) * rounded(1 - rounded(f32(s) * f)))
+    r = rounded(f32(v) * rounded(1 - rounded(f32(s) * rounded(1 - f))))
+    v = f32(v)
+    return tuple(map(f32_bits, ((v, r, p), (q, v, p), (p, v, r), (p, q, v), (r, p, v), (v, p, q))[k]))
+
+
+SIX = 0x40C00000
+
+
+def check_hues(checks):
+    """Hues: their channels, refusals in turn, and a cross-check by machine floats."""
+    group = "hues"
+    whole = [encode(Fraction(k)) for k in range(6)]
+    pure = ((1, 0, 0), (1, 1, 0), (0, 1, 0), (0, 1, 1), (0, 0, 1), (1, 0, 1))
+    for hue, expected in zip(whole, pure, strict=True):
+        checks.equal(group, f"pure {hue:#x}", swatch_cell(2, Hsv(hue, ONE, ONE)), (None, expected))
+        checks.equal(group, f"grey {hue:#x}", channels(Hsv(hue, ZERO, QUARTER)), Rgb(QUARTER, QUARTER, QUARTER))
+        checks.equal(group, f"half {hue:#x}", channels(Hsv(hue, HALF, ONE)), Rgb(*(ONE if x else HALF for x in expected)))
+    checks.equal(group, "minus zero", channels(Hsv(MINUS_ZERO, HALF, ONE)), Rgb(ONE, HALF, HALF))
+    checks.equal(group, "value minus zero", channels(Hsv(ONE, HALF, MINUS_ZERO)), Rgb(*[MINUS_ZERO] * 3))
+    checks.equal(group, "just below 6", channels(Hsv(SIX - 1, ONE, ONE)), Rgb(ONE, ZERO, 0x35000000))
+    for swatch, expected in (
+        (Hsv(SIX, ZERO, ZERO), 33),
+        (Hsv(SMALLEST | MINUS_ZERO, INFINITY, ZERO), 33),
+        (Hsv(INFINITY, ONE + 1, ZERO), 31),
+        (Hsv(NOT_A_NUMBER, INFINITY, ZERO), 31),
+        (Hsv(ZERO, ONE + 1, INFINITY), 32),
+        (Hsv(ZERO, INFINITY, ONE + 1), 31),
+        (Hsv(ZERO, ONE, ONE + 1), 32),
+        (Hsv(SIX - 1, ONE, NOT_A_NUMBER), 31),
+    ):
+        checks.equal(group, f"{swatch}", swatch_cell(64, swatch), (expected, None))
+        checks.equal(group, f"11 {swatch}", swatch_cell(1, swatch), (11, None))
+        checks.equal(group, f"first {swatch}", half_way(swatch, Grey(INFINITY)), (expected, None))
+        checks.equal(group, f"second {swatch}", half_way(Grey(ONE), swatch), (expected, None))
+    # v - v × s is a half here, and v × (1 - s + s × f) is 0x3F666667
+    checks.equal(group, "v × (1 - s)", channels(Hsv(ZERO, 0x3ED55555, 0x3F5B6DB7)).blue, HALF + 1)
+    checks.equal(group, "v × (1 - s × (1 - f))", channels(Hsv(HALF, 0x3E4CCCCD, ONE)).green, 0x3F666666)
+    dice = random.Random(4)
+    for _ in range(2000):
+        value = dice.choice((dice.randrange(ONE + 1), dice.randrange(QUARTER, ONE)))
+        w = Hsv(dice.choice((dice.randrange(SIX), dice.randrange(ONE, SIX))), dice.randrange(ONE + 1), value)
+        checks.equal(group, f"floats {w}", tuple(channels(w)), machine_channels(*w))
+
+
 SAMPLE_SHEET = (
     b"    4\n"
     b"    7    3    0    0    0    1    0    0    2    0    0    3    0    0\n"
@@ -963,6 +1052,7 @@ def self_check():
         check_refusals,
         check_swatches,
         check_half_way,
+        check_hues,
         check_sheet,
         check_demand_3_can_fail,
         check_random_calls,

@@ -1,28 +1,26 @@
 // Runs stored cases of swatches: reads case records from standard input and writes an answer record for each.
 //
-//     C side red green blue                 the cell of three channels
-//     G side grey                           the cell of a grey
-//     H red green blue red green blue       half-way between two swatches of three channels
-//     I red green blue grey                 half-way from three channels to a grey
-//     J grey red green blue                 half-way from a grey to three channels
-//     K grey grey                           half-way between two greys
+//     C side swatch                         the cell of a swatch
+//     H swatch swatch                       half-way between two swatches
 //
-// A channel is the bit pattern of its f32. Numbers that a case does not use are 0. The answers are
+// A swatch is its kind and three numbers, each the bit pattern of an f32: 0 red green blue, 1 grey and twice 0, or 2 hue
+// saturation value. Numbers that a case does not use are 0. The answers are
 //
 //     R number                              refused (decimal)
 //     C x y z                               a cell (decimal)
 //     H red green blue                      the half-way swatch (bit patterns)
 //     B                                     no such case
 //
-// A case has seven numbers, hence 64 bytes, and an answer three, hence 29 bytes.
+// A case has eight numbers, hence 73 bytes, and an answer three, hence 29 bytes.
 ghost use mathlib.Core.Path.{_≡_};
 ghost use Prim.Native.Nat.{_*_, _≤_};
 ghost use lib.ListN.{length};
 ghost use lib.Ieee.{binary32, ofBits, toBits};
 use cases::block::Progress;
+use channel::Rgb;
+use hsv::Hsv;
 use swatch::CellAnswer;
 use swatch::HalfWayAnswer;
-
 use swatch::Swatch;
 
 // An answer's letter and numbers, which are written in hexadecimal or in decimal digits.
@@ -45,16 +43,16 @@ fn main() {
 
 // Answers the next 1,024 cases, or as many as are left.
 fn answer_block() -> Progress {
-    let mut records = [0u8; 65536];
+    let mut records = [0u8; 74752];
     let mut answers = [0u8; 29696];
     answer_input(&mut records, &mut answers)
 }
 
 // Reads cases until their buffer is full or the input ends, and writes the answers.
 fn answer_input(records: &mut [u8], answers: &mut [u8]) -> Progress
-    requires { ⌜ (length (now records) ≡ 65536) × (length (now answers) ≡ 29696) ⌝ }
+    requires { ⌜ (length (now records) ≡ 74752) × (length (now answers) ≡ 29696) ⌝ }
 {
-    let block = cases::block::read_records(records, 64);
+    let block = cases::block::read_records(records, 73);
     let then = block.then;
     answer_cases(records, block.count, answers);
     cases::block::write_answers(answers, block.count * 29, then)
@@ -62,13 +60,13 @@ fn answer_input(records: &mut [u8], answers: &mut [u8]) -> Progress
 
 // Answers each case with the record of the same number.
 fn answer_cases(records: &[u8], count: usize, answers: &mut [u8])
-    requires { ⌜ count * 64 ≤ length (now records) ⌝ }
+    requires { ⌜ count * 73 ≤ length (now records) ⌝ }
     requires { ⌜ count * 29 ≤ length (now answers) ⌝ }
     ensures { λ _. ⌜ length (now (answers .exit)) ≡ length (now (answers .entry)) ⌝ }
 {
     let mut k = 0;
     while k < count {
-        let answer = answer_case(cases::record::nth(records, k, 64));
+        let answer = answer_case(cases::record::nth(records, k, 73));
         let numbers = answer.numbers;
         cases::answer::put_answer(answer.letter, answer.hexadecimal, &numbers, answers, k * 29);
         k += 1;
@@ -77,51 +75,53 @@ fn answer_cases(records: &[u8], count: usize, answers: &mut [u8])
 
 // The answer to one case.
 fn answer_case(case: &[u8]) -> Answer
-    requires { ⌜ length (now case) ≡ 64 ⌝ }
+    requires { ⌜ length (now case) ≡ 73 ⌝ }
 {
     if !cases::record::is_case(case) {
         return no_answer();
     }
     let letter = case[0];
-    if letter == b'C' {
-        return cell_answer(swatch::to_cell(cases::record::number(case, 0), color(case, 1)));
+    if letter == b'C' && is_kind(case, 1) {
+        return cell_answer(swatch::to_cell(cases::record::number(case, 0), swatch_at(case, 1)));
     }
-    if letter == b'G' {
-        return cell_answer(swatch::to_cell(cases::record::number(case, 0), grey(case, 1)));
-    }
-    if letter == b'H' {
-        return half_way_answer(swatch::half_way(color(case, 0), color(case, 3)));
-    }
-    if letter == b'I' {
-        return half_way_answer(swatch::half_way(color(case, 0), grey(case, 3)));
-    }
-    if letter == b'J' {
-        return half_way_answer(swatch::half_way(grey(case, 0), color(case, 1)));
-    }
-    if letter == b'K' {
-        return half_way_answer(swatch::half_way(grey(case, 0), grey(case, 1)));
+    if letter == b'H' && is_kind(case, 0) && is_kind(case, 4) {
+        return half_way_answer(swatch::half_way(swatch_at(case, 0), swatch_at(case, 4)));
     }
     no_answer()
 }
 
-// The swatch of three channels from the case's number k on.
-fn color(case: &[u8], k: usize) -> Swatch
-    requires { ⌜ length (now case) ≡ 64 ⌝ }
-    requires { ⌜ k ≤ 4 ⌝ }
+// Whether the case's number k is a kind of swatch.
+fn is_kind(case: &[u8], k: usize) -> bool
+    requires { ⌜ length (now case) ≡ 73 ⌝ }
+    requires { ⌜ k ≤ 7 ⌝ }
 {
-    Swatch::Color(Rgb {
-        red: channel(cases::record::number(case, k)),
-        green: channel(cases::record::number(case, k + 1)),
-        blue: channel(cases::record::number(case, k + 2)),
-    })
+    cases::record::number(case, k) <= 2
 }
 
-// The swatch of one grey, the case's number k.
-fn grey(case: &[u8], k: usize) -> Swatch
-    requires { ⌜ length (now case) ≡ 64 ⌝ }
-    requires { ⌜ k ≤ 6 ⌝ }
+// The swatch whose kind is the case's number k. Kind 0 is a colour, kind 1 a grey, any other a hue.
+fn swatch_at(case: &[u8], k: usize) -> Swatch
+    requires { ⌜ length (now case) ≡ 73 ⌝ }
+    requires { ⌜ k ≤ 4 ⌝ }
 {
-    Swatch::Grey(channel(cases::record::number(case, k)))
+    let kind = cases::record::number(case, k);
+    let a = channel(cases::record::number(case, k + 1));
+    let b = channel(cases::record::number(case, k + 2));
+    let c = channel(cases::record::number(case, k + 3));
+    if kind == 0 {
+        return Swatch::Color(Rgb {
+            red: a,
+            green: b,
+            blue: c,
+        });
+    }
+    if kind == 1 {
+        return Swatch::Grey(a);
+    }
+    Swatch::Hue(Hsv {
+        hue: a,
+        saturation: b,
+        value: c,
+    })
 }
 
 // The answer to a record that is no case.
