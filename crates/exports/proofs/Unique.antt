@@ -1,5 +1,5 @@
 -- The swatch calls' contracts fix answer and buffer: two of which they hold are equal.
-use mathlib.Core.Path.{_≡_, refl, sym, _∙_, ap}
+use mathlib.Core.Path.{_≡_, sym, _∙_, ap}
 use mathlib.Core.List.{List, _∷_, [], _++_}
 use Prim.Native.Nat.{ℕ}
 use lib.IntN.{ℤ}

@@ -1,23 +1,22 @@
 -- Saturation 0 gives the grey of the value; minus zero is hue 0; 6 is out of range, and the f32 just below it has k = 5.
-use mathlib.Core.Path.{_≡_, refl, sym, ap, _∙_, subst}
+use mathlib.Core.Path.{_≡_, refl, ap, _∙_}
 use Prim.Native.Nat.{ℕ, zero, suc, _-_, _*_, _<_}
 use native.Mathlib.Nat.{zero-mul, mul-pos}
 use native.Mathlib.Omega.{arith}
 use mathlib.Core.Bool.{Bool, true, false}
 use lib.IntN.{ℤ}
 use lib.Dec.{T, lit<}
-use lib.Ieee.{Float, nan, inf, fin, up, down, unlike, binary32, ofBits, round, sub, mul, ofInt, fits}
+use lib.Ieee.{Float, nan, inf, fin, up, down, binary32, ofBits, round, sub, mul, ofInt, fits}
 use lib.Ieee.Fits.{down-pos, round-fits}
-use lib.Ieee.Exact.{HasValue}
 use lib.Ieee.Scale.{round-same}
 use lib.Ieee.Positive.{num, den, den-pos}
 use Rattle.channel.specs.Channel.{inRange, zero32, one32}
 use Rattle.channel.specs.HalfWay.{minusZero32}
 use Rattle.channel.proofs.Order.{NonNegative, size-zero, range-nonneg}
-use Rattle.channel.proofs.Held.{Held, channel-held}
+use Rattle.channel.proofs.Held.{channel-held}
 use Rattle.hsv.specs.declared.Hsv.{Hsv}
 use Rattle.hsv.specs.Hue.{six32, hueInRange, HsvInRange}
-use Rattle.hsv.specs.Channels.{wholePart, fractionalPart, pOf, qOf, rOf, rgb, row, hsvChannels}
+use Rattle.hsv.specs.Channels.{wholePart, fractionalPart, rgb, row, hsvChannels}
 use Rattle.hsv.proofs.Rounds.{
   Rounds,
   round-one,

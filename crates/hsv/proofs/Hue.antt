@@ -1,6 +1,6 @@
 -- A hue in range: its whole part is 0 to 5, and the fractional part is exact and from 0 to below 1.
-use mathlib.Core.Path.{_≡_, refl, sym, ap, _∙_, subst}
-use Prim.Native.Nat.{ℕ, zero, suc, _+_, _-_, _*_, _/_, _%_, _^_, _≤_, _<_, min}
+use mathlib.Core.Path.{_≡_, refl, sym, ap, _∙_}
+use Prim.Native.Nat.{ℕ, zero, suc, _+_, _-_, _*_, _/_, _^_, _≤_, _<_}
 use native.Mathlib.Nat.{
   le-of-lt,
   le-of-suc-le-suc,
@@ -12,13 +12,10 @@ use native.Mathlib.Nat.{
   pow-le-pow-right,
   mul-lt-mul-of-pos-right,
   lt-of-mul-lt-mul-right,
+  le-of-mul-le-mul-right,
   lt-of-not-le,
   lt-of-le-of-lt,
-  mul-one,
-  zero-mul,
-  zero-div,
   mul-assoc,
-  mul-right-comm,
   mul-pos,
   mul-le-mul-right,
   div-mul-le-self,
@@ -26,12 +23,13 @@ use native.Mathlib.Nat.{
   div-lt-iff-lt-mul,
 }
 use native.Mathlib.Omega.{arith}
-use mathlib.Core.Bool.{Bool, true, false, _&&_}
-use lib.IntN.{ℤ, pos}
-use lib.Dec.{T, lit≤, lit<, le→leb, lt→ltb, ltb→lt}
+use mathlib.Core.Bool.{Bool, true, false, true≢false}
+use borrow.Author.Tests.{ltb-true, ltb-false}
+use lib.IntN.{pos}
+use lib.Dec.{T, lit≤, lit<, lt→ltb, ltb→lt}
 use lib.Pow.{pow-add, pow-pos}
-use lib.Ieee.{Float, nan, inf, fin, up, down, binary32, round, sub, ofInt, toUnsigned, inFloat, le, lt, fits, toBits}
-use lib.Ieee.Fits.{and-i, and-l, and-r, down-pos}
+use lib.Ieee.{Float, nan, inf, fin, up, down, below, binary32, ofInt, le, lt, fits, toBits}
+use lib.Ieee.Fits.{and-l, and-r, down-pos}
 use lib.Ieee.Back.{round-whole}
 use lib.Ieee.Exact.{HasValue}
 use lib.Ieee.Positive.{num, den, den-pos}
@@ -95,14 +93,14 @@ whole-part-nonneg : (h : Float) → T (hueInRange h) → NonNegative (wholePart3
 whole-part-nonneg h u = value-nonneg (wholePart32 h) (wholePart h) 1 (whole-part-value h u)
 
 -- The f32 k is at most h, and h at most 1 above it.
-below : (n d a c k : ℕ) → a * 1 ≡ k * c → k * d ≤ n → a * d ≤ n * c
-below n d a c k e h =
+whole-below : (n d a c k : ℕ) → a * 1 ≡ k * c → k * d ≤ n → a * d ≤ n * c
+whole-below n d a c k e h =
     let p : k * d * c ≤ n * c = mul-le-mul-right c h in
     let q : a * 1 * d ≡ k * c * d = ap (λ (z : ℕ). z * d) e in
     omega arith
 
-above : (n d a c k : ℕ) → a * 1 ≡ k * c → n < k * d + d → n * c ≤ a * d + d * c
-above n d a c k e h =
+whole-near : (n d a c k : ℕ) → a * 1 ≡ k * c → n < k * d + d → n * c ≤ a * d + d * c
+whole-near n d a c k e h =
     let p : n * c ≤ (k * d + d) * c = mul-le-mul-right c (le-of-lt h) in
     let q : a * 1 * d ≡ k * c * d = ap (λ (z : ℕ). z * d) e in
     omega arith
@@ -113,46 +111,55 @@ fraction-range h u =
     let x = wholePart32 h in
     let e = whole-part-cross h u in
     sub-range h x (hue-nonneg h u) (whole-part-nonneg h u)
-    (below (num h) (den h) (num x) (den x) (wholePart h) e (whole-part-le h))
-    (above (num h) (den h) (num x) (den x) (wholePart h) e (whole-part-next h))
+    (whole-below (num h) (den h) (num x) (den x) (wholePart h) e (whole-part-le h))
+    (whole-near (num h) (den h) (num x) (den x) (wholePart h) e (whole-part-next h))
 
--- ---- The cast to a whole number.
--- -1 < h < 2 ^ 64, which truncation asks.
-pub truncates : (h : Float) → T (hueInRange h) → T (lt (fin true 1 (pos 0)) h) × T (lt h (fin false 1 (pos 64)))
+-- ---- The tests that find k.
+-- ±a below b, with a minus only before 0, says that a < b.
+signed-below : (s : Bool) (a b : ℕ) → (T s → a ≡ 0) → below s a false b ≡ true → a < b
+signed-below true a b p e = let z = p tt in let l = ltb-true 0 (a + b) e in omega arith
+signed-below false a b p e = ltb-true a b e
+
+-- The other way round.
+signed-from : (s : Bool) (a b : ℕ) → (T s → a ≡ 0) → below s a false b ≡ false → b ≤ a
+signed-from true a b p e = let l = ltb-false 0 (a + b) e in omega arith
+signed-from false a b p e = ltb-false a b e
+
+-- Where U / D is the whole number c.
+cross-lt : (n d U D c : ℕ) → U * 1 ≡ c * D → n * D < U * d → n < c * d
+cross-lt n d U D c e h =
+    let a : U * 1 * d ≡ c * D * d = ap (λ (z : ℕ). z * d) e in
+    lt-of-mul-lt-mul-right D (omega arith)
+
+cross-le : (n d U D c : ℕ) → 0 < D → U * 1 ≡ c * D → U * d ≤ n * D → c * d ≤ n
+cross-le n d U D c p e h =
+    let a : U * 1 * d ≡ c * D * d = ap (λ (z : ℕ). z * d) e in
+    let b : c * d * D ≤ n * D = omega arith in
+    le-of-mul-le-mul-right b p
+
+-- Below a whole number c that is the f32 x.
+pub below-whole : (h x : Float) (c : ℕ) → NonNegative h → HasValue x false c 1 → lt h x ≡ true → num h < c * den h
 unfolding lt
-truncates nan u = absurd (hue-nonneg nan u)
-truncates (inf s) u = absurd (hue-nonneg (inf s) u)
-truncates (fin true m e) u =
-    let z = zero-size m (up e) 1 (hue-nonneg (fin true m e) u tt) in
-    let d = down-pos e in (
-      lt→ltb (m * up e * 1) (1 * down e) (omega arith),
-      lt→ltb 0 (m * up e * 1 + 18446744073709551616 * down e) (omega arith),
-    )
-truncates (fin false m e) u =
-    let l = hue-below-six (fin false m e) u in
-    let d = down-pos e in (
-      lt→ltb 0 (1 * down e + m * up e * 1) (omega arith),
-      lt→ltb (m * up e * 1) (18446744073709551616 * down e) (omega arith),
-    )
+below-whole nan x c p v e = absurd p
+below-whole (inf s) x c p v e = absurd p
+below-whole (fin s m g) nan c p v e = absurd v
+below-whole (fin s m g) (inf t) c p v e = absurd v
+below-whole (fin s m g) (fin true n d) c p v e = absurd (true≢false (v .0))
+below-whole (fin s m g) (fin false n d) c p v e =
+    cross-lt (m * up g) (down g) (n * up d) (down d) c (v .1)
+    (signed-below s (m * up g * down d) (n * up d * down g) (λ k. zero-size m (up g) (down d) (p k)) e)
 
--- A whole number up to 5 is not cut off at 64 bits.
-not-cut : (q : ℕ) → q ≤ 5 → min q (2 ^ 64 - 1) ≡ q
-not-cut q h = omega arith
-
--- Truncation gives k.
-pub truncated : (h : Float) → T (hueInRange h) → toUnsigned 64 h ≡ wholePart h
-unfolding toUnsigned
-truncated nan u = absurd (hue-nonneg nan u)
-truncated (inf s) u = absurd (hue-nonneg (inf s) u)
-truncated (fin true m e) u =
-    let z = hue-nonneg (fin true m e) u tt in
-    sym (ap (λ (x : ℕ). x / down e) (ap (λ (x : ℕ). x * up e) z ∙ zero-mul (up e)) ∙ zero-div (down e))
-truncated (fin false m e) u = not-cut (m * up e / down e) (whole-part-le-five (fin false m e) u)
-
--- k is an f32 without loss.
-pub whole-part-fits : (h : Float) → T (hueInRange h) → T (inFloat binary32 (pos (wholePart h)))
-unfolding inFloat
-whole-part-fits h u = let l = whole-part-le-five h u in le→leb (wholePart h) (2 ^ 24) (omega arith)
+-- At least a whole number c that is the f32 x.
+pub from-whole : (h x : Float) (c : ℕ) → NonNegative h → HasValue x false c 1 → lt h x ≡ false → c * den h ≤ num h
+unfolding lt
+from-whole nan x c p v e = absurd p
+from-whole (inf s) x c p v e = absurd p
+from-whole (fin s m g) nan c p v e = absurd v
+from-whole (fin s m g) (inf t) c p v e = absurd v
+from-whole (fin s m g) (fin true n d) c p v e = absurd (true≢false (v .0))
+from-whole (fin s m g) (fin false n d) c p v e =
+    cross-le (m * up g) (down g) (n * up d) (down d) c (down-pos d) (v .1)
+    (signed-from s (m * up g * down d) (n * up d * down g) (λ k. zero-size m (up g) (down d) (p k)) e)
 
 -- ---- The fractional part is exact.
 -- A product below 6 D has a power of two of at most D, if the other factor is a significand.
@@ -236,7 +243,7 @@ fraction-exact h F u =
     let H = held-times (num h - k * den h) (den h) (num h * den x - num x * den h) (den h * den x) (den x) d refl
     (fraction-held h F u) in
     let R = sub-rounds h x (hue-nonneg h u) (whole-part-nonneg h u)
-    (below (num h) (den h) (num x) (den x) k e (whole-part-le h)) in
+    (whole-below (num h) (den h) (num x) (den x) k e (whole-part-le h)) in
     let v = rounds-exact f (num h * den x - num x * den h) (den h * den x) (mul-pos (den-pos h) (den-pos x)) H R in
     fraction-sum (num h) (den h) (den x) k (num f) (den f) (den-pos x) (whole-part-le h)
     (v ∙ ap (λ (z : ℕ). z * den f) d)

@@ -5,8 +5,8 @@ use Prim.Native.Nat.{ℕ, _+_, _-_, _*_, _^_, _≤_, _<_}
 use native.Mathlib.Nat.{zero-mul, mul-zero, mul-assoc, mul-right-comm, mul-pos, mul-le-mul}
 use native.Mathlib.Omega.{arith}
 use borrow.Author.Tests.{le-ltb}
-use mathlib.Core.Bool.{Bool, true, false, not, cond, _&&_}
-use lib.Dec.{T, ltb, lit<}
+use mathlib.Core.Bool.{Bool, true, false, not}
+use lib.Dec.{T, lit<}
 use lib.Ieee.{Float, nan, inf, fin, up, down, unlike, binary32, round, sum, sub, mul, le}
 use lib.Ieee.Fits.{and-i, up-pos}
 use lib.Ieee.Exact.{HasValue, round-exact}

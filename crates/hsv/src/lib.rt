@@ -1,11 +1,10 @@
 // Hue, saturation and value, as a colour desk speaks: the refusals of a hue, and the channels that the three stand for.
 ghost use mathlib.Core.Path.{_≡_};
 ghost use mathlib.Core.Bool.{false};
-ghost use Prim.Native.Nat.{_≤_};
 ghost use lib.Dec.{T};
 ghost use Rattle.decide.specs.Refusal.{firstThat, refused};
 ghost use Rattle.hsv.specs.Hue.{hueInRange, hueRefusals};
-ghost use Rattle.hsv.specs.Channels.{rgb, row, hsvChannels};
+ghost use Rattle.hsv.specs.Channels.{qOf, rOf, rgb, hsvChannels};
 use channel::Rgb;
 
 // A hue from 0 to below 6, a saturation and a value from 0 to 1.
@@ -34,42 +33,45 @@ pub fn number(h: f32) -> u32
     }
 }
 
-// Red, green and blue from an accepted hue, a saturation and a value.
+// Red, green and blue from an accepted hue, a saturation and a value: the row of k, the whole part of the hue, from 0 to 5.
 pub fn channels(w: Hsv) -> Rgb
     requires { ⌜ T (hueInRange (w .hue)) ⌝ }
     ensures { λ r. ⌜ r ≡ hsvChannels w ⌝ }
 {
-    let v = w.value;
+    let h = w.hue;
     let s = w.saturation;
-    let k = std::num::truncating_f32_to_u64(w.hue);
-    let f = w.hue - (k as f32);
+    let v = w.value;
     let p = v * (1.0 - s);
-    let q = v * (1.0 - s * f);
-    let r = v * (1.0 - s * (1.0 - f));
-    row_of(k, v, p, q, r)
+    if h < 1.0 {
+        return rgb(v, r_of(v, s, h - 0.0), p);
+    }
+    if h < 2.0 {
+        return rgb(q_of(v, s, h - 1.0), v, p);
+    }
+    if h < 3.0 {
+        return rgb(p, v, r_of(v, s, h - 2.0));
+    }
+    if h < 4.0 {
+        return rgb(p, q_of(v, s, h - 3.0), v);
+    }
+    if h < 5.0 {
+        return rgb(r_of(v, s, h - 4.0), p, v);
+    }
+    rgb(v, p, q_of(v, s, h - 5.0))
 }
 
-// Red, green and blue for k from 0 to 5.
-fn row_of(k: u64, v: f32, p: f32, q: f32, r: f32) -> Rgb
-    requires { ⌜ k ≤ 5 ⌝ }
-    ensures { λ x. ⌜ x ≡ row k v p q r ⌝ }
+// The part of the value that falls as f rises.
+fn q_of(v: f32, s: f32, f: f32) -> f32
+    ensures { λ x. ⌜ x ≡ qOf v s f ⌝ }
 {
-    if k == 0 {
-        return rgb(v, r, p);
-    }
-    if k == 1 {
-        return rgb(q, v, p);
-    }
-    if k == 2 {
-        return rgb(p, v, r);
-    }
-    if k == 3 {
-        return rgb(p, q, v);
-    }
-    if k == 4 {
-        return rgb(r, p, v);
-    }
-    rgb(v, p, q)
+    v * (1.0 - s * f)
+}
+
+// The part of the value that rises with f.
+fn r_of(v: f32, s: f32, f: f32) -> f32
+    ensures { λ x. ⌜ x ≡ rOf v s f ⌝ }
+{
+    v * (1.0 - s * (1.0 - f))
 }
 
 // Red, green and blue.

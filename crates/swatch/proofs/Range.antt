@@ -1,5 +1,5 @@
 -- The channels of a swatch with no refusal lie from 0 to 1.
-use mathlib.Core.Path.{_≡_, refl, sym, ap, _∙_, subst}
+use mathlib.Core.Path.{_≡_, refl, sym, _∙_, subst}
 use mathlib.Core.Bool.{true, _&&_}
 use lib.Dec.{T}
 use lib.Ieee.{Float}

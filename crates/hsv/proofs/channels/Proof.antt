@@ -1,33 +1,157 @@
--- `channels` meets its contract: truncation gives k, and the operations are the definition's.
-use mathlib.Core.Path.{_≡_, sym, ap, _∙_, subst}
-use Prim.Native.Nat.{ℕ, _≤_}
+-- `channels` meets its contract: the tests find k, and the operations are the definition's.
+use mathlib.Core.Path.{_≡_, refl, sym, ap, _∙_}
+use Prim.Native.Nat.{ℕ, _+_, _*_, _≤_, _<_}
+use native.Mathlib.Nat.{div-eq-of-lt-le}
+use native.Mathlib.Omega.{arith}
+use mathlib.Core.Bool.{true, false}
+use borrow.Author.Needs.{needs}
 use lib.IntN.{pos}
-use lib.Dec.{T}
-use lib.Ieee.{binary32, ofBits, inFloat, toUnsigned}
-use Rattle.hsv.specs.Channels.{wholePart}
-use Rattle.hsv.proofs.Hue.{truncates, truncated, whole-part-le-five, whole-part-fits}
+use lib.Ieee.{Float, binary32, ofBits, sub, ofInt, lt}
+use lib.Ieee.Exact.{HasValue}
+use lib.Ieee.Positive.{num, den}
+use Rattle.hsv.specs.declared.Hsv.{Hsv}
+use Rattle.hsv.specs.Channels.{pOf, qOf, rOf, rgb, row, hsvChannels}
+use Rattle.hsv.proofs.Hue.{hue-nonneg, hue-below-six, below-whole, from-whole}
 use Rattle.hsv.proofs.channels.Statement.{statement}
 use Rattle.hsv.proofs.channels.Tie as tie
 
-truncating-f32-to-u64-requires : tie.Need-truncating-f32-to-u64-requires
-truncating-f32-to-u64-requires c κs = truncates (c .args .w .hue) (c .pre)
+-- The channels by the row k, where k ≤ h < k + 1.
+in-row : (w : Hsv) (k : ℕ) → k * den (w .hue) ≤ num (w .hue) → num (w .hue) < (k + 1) * den (w .hue)
+    → hsvChannels w
+    ≡ (let v = w .value in
+    let s = w .saturation in
+    let f = sub binary32 (w .hue) (ofInt binary32 (pos k)) in
+    row k v (pOf v s) (qOf v s f) (rOf v s f))
+in-row w k l g = rw (div-eq-of-lt-le (den (w .hue)) l g)
 
--- Truncation gives k.
-is-k : (c : tie.After-truncating-f32-to-u64) → c .truncating-f32-to-u64 .result ≡ wholePart (c .before .args .w .hue)
-is-k c = c .truncating-f32-to-u64 .ensures ∙ truncated (c .before .args .w .hue) (c .before .pre)
+module _ (s : tie.Start) where
+  -- Hue, saturation and value.
+  abbrev hsv : Hsv
+  hsv = s .args .w
 
-int-to-float-f : tie.Need-int-to-float-f
-int-to-float-f c =
-    rw (is-k (c .before)) (whole-part-fits (c .before .before .args .w .hue) (c .before .before .pre))
+  abbrev v : Float
+  v = hsv .value
 
-row-of-requires : tie.Need-row-of-requires
-row-of-requires c κs =
-    let s = c .before .before .before in
-    rw (is-k (c .before .before)) (whole-part-le-five (s .args .w .hue) (s .pre))
+  abbrev p : Float
+  p = pOf v (hsv .saturation)
+
+  -- The hue is below the f32 x, which is the whole number k.
+  under : (x : Float) (k : ℕ) → HasValue x false k 1 → lt (hsv .hue) x ≡ true → num (hsv .hue) < k * den (hsv .hue)
+  under x k = below-whole (hsv .hue) x k (hue-nonneg (hsv .hue) (s .pre))
+
+  -- The hue is at least that.
+  over : (x : Float) (k : ℕ) → HasValue x false k 1 → lt (hsv .hue) x ≡ false → k * den (hsv .hue) ≤ num (hsv .hue)
+  over x k = from-whole (hsv .hue) x k (hue-nonneg (hsv .hue) (s .pre))
+
+r-of-requires : tie.Need-r-of-requires
+r-of-requires c κs = search needs
+
+rgb-requires : tie.Need-rgb-requires
+rgb-requires c κs = search needs
 
 returns : tie.Need-returns
-unfolding ofBits
-returns c = rw (← is-k (c .before .before .before)) (c .row-of .ensures)
+unfolding ofBits ofInt
+returns c =
+    let s = c .before .before .before in
+    c .rgb .ensures ∙ ap (λ x. rgb (v s) x (p s)) (c .before .r-of .ensures)
+    ∙ sym
+    (in-row (hsv s) 0 (omega arith)
+    (under s _ 1 (refl, refl) (c .before .before .if1 .taken)))
+
+q-of-requires : tie.Need-q-of-requires
+q-of-requires c κs = search needs
+
+rgb-requires-2 : tie.Need-rgb-requires-2
+rgb-requires-2 c κs = search needs
+
+returns-2 : tie.Need-returns-2
+unfolding ofBits ofInt
+returns-2 c =
+    let s = c .before .before .before .before in
+    c .rgb2 .ensures ∙ ap (λ x. rgb x (v s) (p s)) (c .before .q-of .ensures)
+    ∙ sym
+    (in-row (hsv s) 1 (over s _ 1 (refl, refl) (c .before .before .before .if1 .left))
+    (under s _ 2 (refl, refl) (c .before .before .if2 .taken)))
+
+r-of-requires-2 : tie.Need-r-of-requires-2
+r-of-requires-2 c κs = search needs
+
+rgb-requires-3 : tie.Need-rgb-requires-3
+rgb-requires-3 c κs = search needs
+
+returns-3 : tie.Need-returns-3
+unfolding ofBits ofInt
+returns-3 c =
+    let s = c .before .before .before .before .before in
+    c .rgb3 .ensures ∙ ap (λ x. rgb (p s) (v s) x) (c .before .r-of2 .ensures)
+    ∙ sym
+    (in-row (hsv s) 2 (over s _ 2 (refl, refl) (c .before .before .before .if2 .left))
+    (under s _ 3 (refl, refl) (c .before .before .if3 .taken)))
+
+q-of-requires-2 : tie.Need-q-of-requires-2
+q-of-requires-2 c κs = search needs
+
+rgb-requires-4 : tie.Need-rgb-requires-4
+rgb-requires-4 c κs = search needs
+
+returns-4 : tie.Need-returns-4
+unfolding ofBits ofInt
+returns-4 c =
+    let s = c .before .before .before .before .before .before in
+    c .rgb4 .ensures ∙ ap (λ x. rgb (p s) x (v s)) (c .before .q-of2 .ensures)
+    ∙ sym
+    (in-row (hsv s) 3 (over s _ 3 (refl, refl) (c .before .before .before .if3 .left))
+    (under s _ 4 (refl, refl) (c .before .before .if4 .taken)))
+
+r-of-requires-3 : tie.Need-r-of-requires-3
+r-of-requires-3 c κs = search needs
+
+rgb-requires-5 : tie.Need-rgb-requires-5
+rgb-requires-5 c κs = search needs
+
+returns-5 : tie.Need-returns-5
+unfolding ofBits ofInt
+returns-5 c =
+    let s = c .before .before .before .before .before .before .before in
+    c .rgb5 .ensures ∙ ap (λ x. rgb x (p s) (v s)) (c .before .r-of3 .ensures)
+    ∙ sym
+    (in-row (hsv s) 4 (over s _ 4 (refl, refl) (c .before .before .before .if4 .left))
+    (under s _ 5 (refl, refl) (c .before .before .if5 .taken)))
+
+q-of-requires-3 : tie.Need-q-of-requires-3
+q-of-requires-3 c κs = search needs
+
+rgb-requires-6 : tie.Need-rgb-requires-6
+rgb-requires-6 c κs = search needs
+
+returns-6 : tie.Need-returns-6
+unfolding ofBits ofInt
+returns-6 c =
+    let s = c .before .before .before .before .before .before .before in
+    c .rgb6 .ensures ∙ ap (λ x. rgb (v s) (p s) x) (c .before .q-of3 .ensures)
+    ∙ sym
+    (in-row (hsv s) 5 (over s _ 5 (refl, refl) (c .before .before .if5 .left))
+    (hue-below-six (hsv s .hue) (s .pre)))
 
 pub channels-spec : {M : Type 1} → statement M
-channels-spec = tie.close (tie.spec truncating-f32-to-u64-requires int-to-float-f row-of-requires returns)
+channels-spec =
+    tie.close
+    (tie.spec
+    r-of-requires
+    rgb-requires
+    returns
+    q-of-requires
+    rgb-requires-2
+    returns-2
+    r-of-requires-2
+    rgb-requires-3
+    returns-3
+    q-of-requires-2
+    rgb-requires-4
+    returns-4
+    r-of-requires-3
+    rgb-requires-5
+    returns-5
+    q-of-requires-3
+    rgb-requires-6
+    returns-6)
