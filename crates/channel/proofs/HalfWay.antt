@@ -164,7 +164,7 @@ unfolding add
 add-is s m e t n d = refl
 
 -- 2 ^ e is 1 only for the exponent 0.
-exponent-zero : (e : ℤ) → up e * down e ≡ 1 → e ≡ pos 0
+pub exponent-zero : (e : ℤ) → up e * down e ≡ 1 → e ≡ pos 0
 exponent-zero (pos zero) h = refl
 exponent-zero (pos (suc k)) h = let z : ⊥ = omega (arith, h, pow-pos k, pow-succ' 2 k) in absurd z
 exponent-zero (negsuc k) h = let z : ⊥ = omega (arith, h, pow-pos k, pow-succ' 2 k) in absurd z

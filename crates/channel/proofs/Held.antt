@@ -4,7 +4,7 @@ use mathlib.Core.Path.{_≡_, refl, sym, ap, _∙_, subst}
 use Prim.Native.Nat.{ℕ, suc, _*_, _^_, _≤_, _<_}
 use native.Mathlib.Nat.{le-trans, le-of-eq, lt-of-le-of-lt, mul-assoc, mul-left-comm, mul-le-mul-left, pow-succ'}
 use native.Mathlib.Omega.{arith}
-use mathlib.Core.Bool.{true, false}
+use mathlib.Core.Bool.{Bool, true, false}
 use lib.IntN.{pos}
 use lib.Dec.{T, lit<}
 use lib.Ieee.{Float, nan, inf, fin, binary32, round, le, fits, toBits}
@@ -66,9 +66,9 @@ double-held v F u =
 two-held : Held 2 1
 two-held = record { digits = 1; power = 150; short = lit< tt; small = lit< tt; equal = refl }
 
--- A held fraction is rounded to itself.
-held-value : (n d : ℕ) → 0 < d → Held n d → HasValue (round binary32 false n d) false n d
-held-value n d D h = round-exact binary32 false n d (h .digits) (h .power) D (h .short) (h .small) (h .equal)
+-- A held fraction is rounded to itself, with either sign.
+pub held-value : (s : Bool) (n d : ℕ) → 0 < d → Held n d → HasValue (round binary32 s n d) s n d
+held-value s n d D h = round-exact binary32 s n d (h .digits) (h .power) D (h .short) (h .small) (h .equal)
 
 -- What lies between two finite values is finite.
 between-finite : (lo x hi : Float) → T (finite lo) → T (finite hi) → T (le lo x) → T (le x hi) → T (finite x)
@@ -83,7 +83,7 @@ between-finite (fin s m e) (inf false) (fin r n d) p q h k = absurd k
 between-finite (fin s m e) (fin t n d) hi p q h k = tt
 
 -- 0 is rounded to 0.
-round-zero : round binary32 false 0 1 ≡ zero32
+pub round-zero : round binary32 false 0 1 ≡ zero32
 unfolding round
 round-zero = refl
 
@@ -111,7 +111,7 @@ round-nonneg n d D h = value-nonneg (round binary32 false n d) (grid binary32 n 
 
 -- A held fraction, rounded, is not below 0.
 held-nonneg : (a c : ℕ) → 0 < c → Held a c → NonNegative (round binary32 false a c)
-held-nonneg a c C H = value-nonneg (round binary32 false a c) a c (held-value a c C H)
+held-nonneg a c C H = value-nonneg (round binary32 false a c) a c (held-value false a c C H)
 
 -- A held fraction that is at most another is at most the other rounded.
 pub rounded-above : (a c n d : ℕ) → 0 < c → 0 < d → Held a c → n ≤ 2 * d → a * d ≤ n * c
@@ -120,7 +120,7 @@ rounded-above a c n d C D H k h =
     let x = round binary32 false a c in
     let r = round binary32 false n d in
     transfer a (num r) c (den r) (num x) (num r) (den x) (den r) (den-pos x) (den-pos r)
-    (sym (value-cross x false a c (held-value a c C H))) refl
+    (sym (value-cross x false a c (held-value false a c C H))) refl
     (le→fractions x r (held-nonneg a c C H) (round-nonneg n d D k) (round-mono binary32 a c n d C D h))
 
 -- A held fraction that is at least another is at least the other rounded.
@@ -130,7 +130,7 @@ rounded-below a c n d C D H k h =
     let x = round binary32 false a c in
     let r = round binary32 false n d in
     transfer (num r) a (den r) c (num r) (num x) (den r) (den x) (den-pos r) (den-pos x)
-    refl (sym (value-cross x false a c (held-value a c C H)))
+    refl (sym (value-cross x false a c (held-value false a c C H)))
     (le→fractions r x (round-nonneg n d D k) (held-nonneg a c C H) (round-mono binary32 n d a c D C h))
 
 -- A fraction up to 2 is rounded to at most 2.

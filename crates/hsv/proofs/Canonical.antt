@@ -6,10 +6,10 @@ use native.Mathlib.Omega.{arith}
 use mathlib.Core.Bool.{Bool, _&&_}
 use lib.IntN.{ℤ, pos, negsuc}
 use lib.Dec.{T, eqb, ltb, leb, eqb→eq}
-use lib.Pow.{pow-pos}
 use lib.Ieee.{Float, fin, up, down, binary32, fits}
 use lib.Ieee.Fits.{and-l, up-pos, down-pos}
 use lib.Ieee.Exact.{HasValue}
+use Rattle.channel.proofs.HalfWay.{exponent-zero}
 
 -- No odd number is twice another.
 odd-even : (m n X Y : ℕ) → m % 2 ≡ 1 → Y ≡ 2 * X → m ≡ n * Y → ⊥
@@ -55,19 +55,10 @@ fits-odd s m e h =
     let d = ltb (suc m * up e) (2 ^ 128 * down e) in
     eqb→eq (suc m % 2) 1 (and-l a b (and-l (a && b) c (and-l (a && b && c) d h)))
 
--- No power of two but the first is 1.
-power-one : (X Y : ℕ) → 0 < X → Y ≡ 2 * X → Y ≡ 1 → ⊥
-power-one X Y p f e = omega arith
-
 -- The exponent of 0 is 0.
 fits-zero : (s : Bool) (e : ℤ) → T (fits binary32 (fin s zero e)) → e ≡ pos 0
 unfolding fits
-fits-zero s e h = go e (eqb→eq (up e * down e) 1 h)
-  where
-    go : (e : ℤ) → up e * down e ≡ 1 → e ≡ pos 0
-    go (pos zero) h = refl
-    go (pos (suc k)) h = absurd (power-one (2 ^ k) (2 ^ suc k) (pow-pos k) (pow-succ' 2 k) (omega arith))
-    go (negsuc k) h = absurd (power-one (2 ^ k) (2 ^ suc k) (pow-pos k) (pow-succ' 2 k) (omega arith))
+fits-zero s e h = exponent-zero e (eqb→eq (up e * down e) 1 h)
 
 -- Two values equal to one fraction are equal, cross-multiplied.
 same-value : (a b c d n k : ℕ) → 0 < k → a * k ≡ n * b → c * k ≡ n * d → a * d ≡ c * b

@@ -13,14 +13,13 @@ use lib.Ieee.Positive.{num, den, den-pos}
 use Rattle.channel.specs.Channel.{inRange, zero32, one32}
 use Rattle.channel.specs.HalfWay.{minusZero32}
 use Rattle.channel.proofs.Order.{NonNegative, size-zero, range-nonneg}
-use Rattle.channel.proofs.Held.{channel-held}
+use Rattle.channel.proofs.Held.{channel-held, held-value}
 use Rattle.hsv.specs.declared.Hsv.{Hsv}
 use Rattle.hsv.specs.Hue.{six32, hueInRange, HsvInRange}
 use Rattle.hsv.specs.Channels.{wholePart, fractionalPart, rgb, row, hsvChannels}
 use Rattle.hsv.proofs.Rounds.{
   Rounds,
   round-one,
-  held-kept,
   zero-held,
   held-times,
   rounds-exact,
@@ -41,7 +40,7 @@ round-own s m e F u =
     let r = round binary32 s (n * 1) (d * 1) in
     let D = mul-pos (down-pos e) (lit< tt) in
     value-unique r (fin s m e) s (n * 1) (d * 1) D (round-fits binary32 s (n * 1) (d * 1)) F
-    (held-kept s (n * 1) (d * 1) D (held-times n d (n * 1) (d * 1) 1 refl refl (channel-held (fin s m e) F u)))
+    (held-value s (n * 1) (d * 1) D (held-times n d (n * 1) (d * 1) 1 refl refl (channel-held (fin s m e) F u)))
     (refl, omega arith)
 
 -- A channel times 1 is itself.

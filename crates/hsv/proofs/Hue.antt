@@ -26,13 +26,14 @@ use native.Mathlib.Omega.{arith}
 use mathlib.Core.Bool.{Bool, true, false, true≢false}
 use borrow.Author.Tests.{ltb-true, ltb-false}
 use lib.IntN.{pos}
-use lib.Dec.{T, lit≤, lit<, lt→ltb, ltb→lt}
+use lib.Dec.{T, lit≤, lit<, lt→ltb}
 use lib.Pow.{pow-add, pow-pos}
 use lib.Ieee.{Float, nan, inf, fin, up, down, below, binary32, ofInt, le, lt, fits, toBits}
 use lib.Ieee.Fits.{and-l, and-r, down-pos}
 use lib.Ieee.Back.{round-whole}
 use lib.Ieee.Exact.{HasValue}
 use lib.Ieee.Positive.{num, den, den-pos}
+use Rattle.decide.proofs.Truth.{true-of}
 use Rattle.channel.specs.Channel.{inRange, zero32, one32}
 use Rattle.channel.proofs.Order.{NonNegative, from-zero, zero-size, range-nonneg, value-nonneg, value-cross}
 use Rattle.channel.proofs.Bits.{exponentField, fractionField, significand, exponent, significand-lt, units, bits-value}
@@ -41,6 +42,54 @@ use Rattle.hsv.specs.Hue.{hueInRange, six32}
 use Rattle.hsv.specs.Channels.{wholePart, fractionalPart}
 use Rattle.hsv.proofs.Rounds.{held-times, sub-rounds, sub-range, rounds-exact}
 
+-- ---- The order of a value from 0 up and a whole number, as `lt` finds it.
+-- ±a below b, with a minus only before 0, says that a < b.
+signed-below : (s : Bool) (a b : ℕ) → (T s → a ≡ 0) → below s a false b ≡ true → a < b
+signed-below true a b p e = let z = p tt in let l = ltb-true 0 (a + b) e in omega arith
+signed-below false a b p e = ltb-true a b e
+
+-- The other way round.
+signed-from : (s : Bool) (a b : ℕ) → (T s → a ≡ 0) → below s a false b ≡ false → b ≤ a
+signed-from true a b p e = let l = ltb-false 0 (a + b) e in omega arith
+signed-from false a b p e = ltb-false a b e
+
+-- Where U / D is the whole number c.
+cross-lt : (n d U D c : ℕ) → U * 1 ≡ c * D → n * D < U * d → n < c * d
+cross-lt n d U D c e h =
+    let a : U * 1 * d ≡ c * D * d = ap (λ (z : ℕ). z * d) e in
+    lt-of-mul-lt-mul-right D (omega arith)
+
+cross-le : (n d U D c : ℕ) → 0 < D → U * 1 ≡ c * D → U * d ≤ n * D → c * d ≤ n
+cross-le n d U D c p e h =
+    let a : U * 1 * d ≡ c * D * d = ap (λ (z : ℕ). z * d) e in
+    let b : c * d * D ≤ n * D = omega arith in
+    le-of-mul-le-mul-right b p
+
+-- Below a whole number c that is the f32 x.
+pub below-whole : (h x : Float) (c : ℕ) → NonNegative h → HasValue x false c 1 → lt h x ≡ true → num h < c * den h
+unfolding lt
+below-whole nan x c p v e = absurd p
+below-whole (inf s) x c p v e = absurd p
+below-whole (fin s m g) nan c p v e = absurd v
+below-whole (fin s m g) (inf t) c p v e = absurd v
+below-whole (fin s m g) (fin true n d) c p v e = absurd (true≢false (v .0))
+below-whole (fin s m g) (fin false n d) c p v e =
+    cross-lt (m * up g) (down g) (n * up d) (down d) c (v .1)
+    (signed-below s (m * up g * down d) (n * up d * down g) (λ k. zero-size m (up g) (down d) (p k)) e)
+
+-- At least a whole number c that is the f32 x.
+pub from-whole : (h x : Float) (c : ℕ) → NonNegative h → HasValue x false c 1 → lt h x ≡ false → c * den h ≤ num h
+unfolding lt
+from-whole nan x c p v e = absurd p
+from-whole (inf s) x c p v e = absurd p
+from-whole (fin s m g) nan c p v e = absurd v
+from-whole (fin s m g) (inf t) c p v e = absurd v
+from-whole (fin s m g) (fin true n d) c p v e = absurd (true≢false (v .0))
+from-whole (fin s m g) (fin false n d) c p v e =
+    cross-le (m * up g) (down g) (n * up d) (down d) c (down-pos d) (v .1)
+    (signed-from s (m * up g * down d) (n * up d * down g) (λ k. zero-size m (up g) (down d) (p k)) e)
+
+-- ---- The whole part and the fractional part.
 -- A hue in range is finite, and not below 0.
 pub hue-nonneg : (h : Float) → T (hueInRange h) → NonNegative h
 unfolding hueInRange
@@ -52,16 +101,8 @@ hue-nonneg (fin s m e) u = from-zero s m e (and-l (le zero32 (fin s m e)) (lt (f
 -- It is below 6.
 pub hue-below-six : (h : Float) → T (hueInRange h) → num h < 6 * den h
 unfolding hueInRange
-hue-below-six nan u = absurd u
-hue-below-six (inf true) u = absurd u
-hue-below-six (inf false) u = absurd u
-hue-below-six (fin true m e) u =
-    let z = zero-size m (up e) 1 (hue-nonneg (fin true m e) u tt) in
-    let d = down-pos e in
-    omega arith
-hue-below-six (fin false m e) u =
-    let l = ltb→lt (m * up e * 1) (6 * down e) (and-r (le zero32 (fin false m e)) (lt (fin false m e) six32) u) in
-    omega arith
+hue-below-six h u =
+    below-whole h six32 6 (hue-nonneg h u) (refl, refl) (true-of (lt h six32) (and-r (le zero32 h) (lt h six32) u))
 
 -- k is 0 to 5.
 pub whole-part-le-five : (h : Float) → T (hueInRange h) → wholePart h ≤ 5
@@ -113,53 +154,6 @@ fraction-range h u =
     sub-range h x (hue-nonneg h u) (whole-part-nonneg h u)
     (whole-below (num h) (den h) (num x) (den x) (wholePart h) e (whole-part-le h))
     (whole-near (num h) (den h) (num x) (den x) (wholePart h) e (whole-part-next h))
-
--- ---- The tests that find k.
--- ±a below b, with a minus only before 0, says that a < b.
-signed-below : (s : Bool) (a b : ℕ) → (T s → a ≡ 0) → below s a false b ≡ true → a < b
-signed-below true a b p e = let z = p tt in let l = ltb-true 0 (a + b) e in omega arith
-signed-below false a b p e = ltb-true a b e
-
--- The other way round.
-signed-from : (s : Bool) (a b : ℕ) → (T s → a ≡ 0) → below s a false b ≡ false → b ≤ a
-signed-from true a b p e = let l = ltb-false 0 (a + b) e in omega arith
-signed-from false a b p e = ltb-false a b e
-
--- Where U / D is the whole number c.
-cross-lt : (n d U D c : ℕ) → U * 1 ≡ c * D → n * D < U * d → n < c * d
-cross-lt n d U D c e h =
-    let a : U * 1 * d ≡ c * D * d = ap (λ (z : ℕ). z * d) e in
-    lt-of-mul-lt-mul-right D (omega arith)
-
-cross-le : (n d U D c : ℕ) → 0 < D → U * 1 ≡ c * D → U * d ≤ n * D → c * d ≤ n
-cross-le n d U D c p e h =
-    let a : U * 1 * d ≡ c * D * d = ap (λ (z : ℕ). z * d) e in
-    let b : c * d * D ≤ n * D = omega arith in
-    le-of-mul-le-mul-right b p
-
--- Below a whole number c that is the f32 x.
-pub below-whole : (h x : Float) (c : ℕ) → NonNegative h → HasValue x false c 1 → lt h x ≡ true → num h < c * den h
-unfolding lt
-below-whole nan x c p v e = absurd p
-below-whole (inf s) x c p v e = absurd p
-below-whole (fin s m g) nan c p v e = absurd v
-below-whole (fin s m g) (inf t) c p v e = absurd v
-below-whole (fin s m g) (fin true n d) c p v e = absurd (true≢false (v .0))
-below-whole (fin s m g) (fin false n d) c p v e =
-    cross-lt (m * up g) (down g) (n * up d) (down d) c (v .1)
-    (signed-below s (m * up g * down d) (n * up d * down g) (λ k. zero-size m (up g) (down d) (p k)) e)
-
--- At least a whole number c that is the f32 x.
-pub from-whole : (h x : Float) (c : ℕ) → NonNegative h → HasValue x false c 1 → lt h x ≡ false → c * den h ≤ num h
-unfolding lt
-from-whole nan x c p v e = absurd p
-from-whole (inf s) x c p v e = absurd p
-from-whole (fin s m g) nan c p v e = absurd v
-from-whole (fin s m g) (inf t) c p v e = absurd v
-from-whole (fin s m g) (fin true n d) c p v e = absurd (true≢false (v .0))
-from-whole (fin s m g) (fin false n d) c p v e =
-    cross-le (m * up g) (down g) (n * up d) (down d) c (down-pos d) (v .1)
-    (signed-from s (m * up g * down d) (n * up d * down g) (λ k. zero-size m (up g) (down d) (p k)) e)
 
 -- ---- The fractional part is exact.
 -- A product below 6 D has a power of two of at most D, if the other factor is a significand.

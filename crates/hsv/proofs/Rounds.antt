@@ -9,12 +9,12 @@ use mathlib.Core.Bool.{Bool, true, false, not}
 use lib.Dec.{T, lit<}
 use lib.Ieee.{Float, nan, inf, fin, up, down, unlike, binary32, round, sum, sub, mul, le}
 use lib.Ieee.Fits.{and-i, up-pos}
-use lib.Ieee.Exact.{HasValue, round-exact}
+use lib.Ieee.Exact.{HasValue}
 use lib.Ieee.Order.{round-mono}
 use lib.Ieee.Positive.{num, den, den-pos}
 use Rattle.channel.specs.Channel.{inRange, zero32, one32}
 use Rattle.channel.proofs.Order.{NonNegative, zero-size, size-zero, range-nonneg, range-le-one, range-of, value-cross}
-use Rattle.channel.proofs.Held.{Held}
+use Rattle.channel.proofs.Held.{Held, held-value, round-zero}
 
 -- r is n / c, rounded once.
 pub record Rounds (r : Float) (n c : ℕ) : Type 0 where
@@ -22,19 +22,10 @@ pub record Rounds (r : Float) (n c : ℕ) : Type 0 where
   pub rounded : r ≡ round binary32 minus n c
   pub zero : T minus → n ≡ 0
 
--- 0 is rounded to 0.
-round-zero : round binary32 false 0 1 ≡ zero32
-unfolding round
-round-zero = refl
-
 -- 1 is rounded to 1.
 pub round-one : round binary32 false 1 1 ≡ one32
 unfolding round
 round-one = refl
-
--- A fraction that is held is kept, whatever its sign.
-pub held-kept : (s : Bool) (n c : ℕ) → 0 < c → Held n c → HasValue (round binary32 s n c) s n c
-held-kept s n c C h = round-exact binary32 s n c (h .digits) (h .power) C (h .short) (h .small) (h .equal)
 
 -- 0 is held.
 pub zero-held : (n c : ℕ) → n ≡ 0 → Held n c
@@ -77,7 +68,7 @@ round-range false n c C h z =
     and-i (le zero32 r) (le r one32)
     (subst (λ (x : Float). T (le x r)) round-zero (round-mono binary32 0 1 n c (lit< tt) C (omega arith)))
     (subst (λ (x : Float). T (le r x)) round-one (round-mono binary32 n c 1 1 C (lit< tt) (omega arith)))
-round-range true n c C h z = zero-range (round binary32 true n c) true n c C (held-kept true n c C (zero-held n c (z tt))) (z tt)
+round-range true n c C h z = zero-range (round binary32 true n c) true n c C (held-value true n c C (zero-held n c (z tt))) (z tt)
 
 -- So is what rounds it.
 pub rounds-range : (r : Float) (n c : ℕ) → 0 < c → n ≤ c → Rounds r n c → T (inRange r)
@@ -89,7 +80,7 @@ pub rounds-exact : (r : Float) (n c : ℕ) → 0 < c → Held n c → Rounds r n
 rounds-exact r n c C H R =
     let x = round binary32 (R .minus) n c in
     subst (λ (y : Float). num y * c ≡ n * den y) (sym (R .rounded))
-    (value-cross x (R .minus) n c (held-kept (R .minus) n c C H))
+    (value-cross x (R .minus) n c (held-value (R .minus) n c C H))
 
 -- A product of two sizes is 0 where an unlike sign stands before it.
 unlike-zero : (s t : Bool) (a b : ℕ) → (T s → a ≡ 0) → (T t → b ≡ 0) → T (unlike s t) → a * b ≡ 0
