@@ -21,15 +21,16 @@
      15  two neighbouring samples lie more than one cell apart on some axis
      21  the grid or the cube is not side x side x side bytes, or a sheet's buffer not 64000
      22  the list or the text is too short
-     31  a channel is infinite or no number
-     32  a channel is below 0 or above 1
+     31  a channel, hue, saturation or value is infinite or no number
+     32  a channel, saturation or value is below 0 or above 1
+     33  a hue is below 0, or 6 or above
      41  a line of wrong length, a missing line feed, or no line 1
      42  a bad field
      43  a sheet's side of 41 to 64
      44  a byte after the 200th curve line
    And of this interface alone, before all others:
      51  a record of another length: a curve's points are not 12 bytes, a patch's not 48
-     53  a kind of swatch that does not exist
+     53  a kind of swatch that does not exist, above 2
      52  an out-buffer of another length (after 51 and 53) */
 #ifndef GIDZKHALU_H
 #define GIDZKHALU_H
@@ -65,13 +66,20 @@ int64_t gidzkhalu_check_patch(uint32_t side, const uint8_t *points, size_t point
 int64_t gidzkhalu_draw_patch(uint32_t side, const uint8_t *points, size_t points_len, uint32_t n, uint32_t m,
                              uint8_t mark, uint8_t *grid, size_t grid_len);
 
-/* Swatches: kind 0 is a colour, a b c its red, green and blue; kind 1 is a grey, a, and b and c are not looked at. */
+/* Swatches: kind 0 is a colour, kind 1 a grey, kind 2 a hue with its saturation and value.
+     0  a b c are red, green and blue; each in turn is tried for 31, 32
+     1  a is the grey, tried for 31, 32; b and c are not looked at
+     2  a is the hue, from 0 to below 6, tried for 31, 33; b is the saturation and c the value, tried after it, each in
+        turn for 31, 32
+   With k the whole part of a and f = a - k, kind 2 stands for the red, green and blue
+     (c, r, p), (q, c, p), (p, c, r), (p, q, c), (r, p, c), (c, p, q) for k from 0 to 5, where
+     p = c (1 - b), q = c (1 - b f), r = c (1 - b (1 - f)), inner operations first, each of f32 and rounded once. */
 
-/* Writes x y z of the swatch's cell, 3 bytes: 0, or 53, 52, 11, 31, 32. Stack: 8 bytes. */
+/* Writes x y z of the swatch's cell, 3 bytes: 0, or 53, 52, 11, then the swatch's numbers. Stack: 8 bytes. */
 int64_t gidzkhalu_to_cell(uint32_t side, uint32_t kind, float a, float b, float c, uint8_t *cell, size_t cell_len);
 
 /* Writes red, green and blue of the swatch half-way between two, 12 bytes: the bit pattern of each f32, the low byte
-   first. 0, or 53, 52, then 31, 32 of the first and of the second. Stack: 8 bytes. */
+   first. 0, or 53, 52, then the numbers of the first swatch, then of the second. Stack: 8 bytes. */
 int64_t gidzkhalu_half_way(uint32_t kind, float a, float b, float c, uint32_t kind2, float a2, float b2, float c2,
                            uint8_t *channels, size_t channels_len);
 

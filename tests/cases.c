@@ -318,6 +318,12 @@ void random_object(struct object_call *call, uint8_t *points, int large, unsigne
 
 /* Swatches */
 
+float float_of(uint32_t bits) {
+    float v;
+    memcpy(&v, &bits, 4);
+    return v;
+}
+
 static uint32_t bits_of(float v) {
     uint32_t bits;
     memcpy(&bits, &v, 4);
@@ -374,22 +380,90 @@ static uint32_t random_channel(uint32_t side) {
     }
 }
 
+/* Hues over all of 0 to 6, at and around whole numbers, and refused ones. */
+static uint32_t random_hue(void) {
+    static const uint32_t refused[] = {0x40C00000, 0x40C00001, 0x40E00000, 0x41C00000, 0x80000001, 0xBF800000,
+                                       0xC0A00000, 0x7F800000, 0xFF800000, 0x7FC00000, 0xFF800001};
+    switch (below(32)) {
+    case 0:
+        return special_channel();
+    case 1:
+        return one_in(2) ? random_word() : PICK(refused);
+    case 2:
+        return below(0x00800000);
+    case 3:
+    case 4:
+        return below(0x40C00000);
+    case 5:
+    case 6:
+        return 0x40BFFFFF - below(256);
+    case 7:
+        return one_in(2) ? 0 : 0x80000000;
+    case 8:
+    case 9:
+    case 10:
+    case 11:
+        return bits_of((float)below(6 * 8) / 8);
+    case 12:
+    case 13:
+    case 14:
+    case 15:
+    case 16:
+    case 17:
+        return bits_of((float)below(7)) + below(5) - 2;
+    default:
+        return bits_of((float)(below(6u << 29) / 536870912.0));
+    }
+}
+
+/* A saturation or a value. */
+static uint32_t random_share(uint32_t side) {
+    static const uint32_t ends[] = {0x00000000, 0x80000000, 0x00000001, 0x3F800000, 0x3F7FFFFF, 0x3F800001};
+    switch (below(8)) {
+    case 0:
+        return PICK(ends);
+    case 1:
+        return bits_of((float)below(17) / 16);
+    default:
+        return random_channel(side);
+    }
+}
+
+/* A value that takes p, q or r of a hue near to a half, or any where there is none. */
+static uint32_t value_near_half(uint32_t h, uint32_t s, uint32_t side) {
+    float f = float_of(h) - (float)whole_part_of_hue(h), saturation = float_of(s);
+    float shares[] = {1, f, 1 - f}, value = float_of(near_half(side)) / (1 - saturation * PICK(shares));
+    return 0 <= value && value <= 1 ? bits_of(value) + below(3) - 1 : random_share(side);
+}
+
+static void random_hsv(uint32_t number[3], uint32_t side) {
+    number[0] = random_hue();
+    number[1] = random_share(side);
+    number[2] = number[0] < 0x40C00000 && number[1] < 0x3F800000 && one_in(4)
+                    ? value_near_half(number[0], number[1], side)
+                    : random_share(side);
+}
+
 uint32_t bad_kind(void) {
-    static const uint32_t kinds[] = {2, 2, 3, 4, 255, 256, 257, 65536, 0x80000000, 0xFFFFFFFF};
+    static const uint32_t kinds[] = {3, 3, 4, 255, 256, 257, 65536, 0x80000000, 0xFFFFFFFF};
     return PICK(kinds);
 }
 
-void random_swatch(struct swatch *swatch, uint32_t side) {
-    swatch->kind = below(2);
-    for (int k = 0; k < 3; k++)
-        swatch->channel[k] = random_channel(side);
+void random_swatch(struct swatch *swatch, uint32_t kind, uint32_t side) {
+    swatch->kind = kind;
+    if (kind == 2)
+        random_hsv(swatch->number, side);
+    else
+        for (int k = 0; k < 3; k++)
+            swatch->number[k] = random_channel(side);
 }
 
+/* A hue is not next to a channel. */
 void random_second(struct swatch *second, const struct swatch *first) {
-    random_swatch(second, random_side());
-    for (int k = 0; k < 3; k++)
+    random_swatch(second, below(KINDS_OF_SWATCH), random_side());
+    for (int k = (second->kind == 2) == (first->kind == 2) ? 0 : 1; k < 3; k++)
         if (one_in(3))
-            second->channel[k] = first->channel[k] + below(5) - 2;
+            second->number[k] = first->number[k] + below(5) - 2;
 }
 
 /* Sheets: a line is built as fourteen numbers, then as text; either may be given faults */

@@ -37,10 +37,15 @@ uint32_t bad_side(void);
    one, and changed only by BAD_SIDE. */
 void random_object(struct object_call *call, uint8_t *points, int large, unsigned faults);
 
-void random_swatch(struct swatch *swatch, uint32_t side);
+/* The f32 of a bit pattern. */
+float float_of(uint32_t bits);
+
+enum { KINDS_OF_SWATCH = 3 };
+
+void random_swatch(struct swatch *swatch, uint32_t kind, uint32_t side);
 uint32_t bad_kind(void);
 
-/* Some channels next to those of another swatch. */
+/* A swatch of any kind, some of its numbers next to those of another. */
 void random_second(struct swatch *second, const struct swatch *first);
 
 enum { SHEET_ROOM = 16000 };

@@ -45,7 +45,7 @@ int same(const struct lent *l) { return memcmp(l->got - GUARD, l->want - GUARD, 
 
 /* Counts */
 
-const int NUMBER[NUMBERS] = {0, 11, 12, 13, 14, 15, 21, 22, 31, 32, 41, 42, 43, 44, 51, 52, 53};
+const int NUMBER[NUMBERS] = {0, 11, 12, 13, 14, 15, 21, 22, 31, 32, 33, 41, 42, 43, 44, 51, 52, 53};
 
 int index_of(int number) {
     for (int k = 0; k < NUMBERS; k++)

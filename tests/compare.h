@@ -23,7 +23,7 @@ void lend_cube(struct lent *lent, size_t len);
 int same(const struct lent *lent);
 
 /* The refusal numbers; 0 stands for an accepted call. */
-enum { NUMBERS = 17 };
+enum { NUMBERS = 18 };
 
 extern const int NUMBER[NUMBERS];
 int index_of(int number);
@@ -70,10 +70,38 @@ void count_order(struct counts *counts, const struct order *order);
     X(CHANNEL_DARK, "accepted swatches with a channel below 1/128")                                                    \
     X(CHANNEL_ABOVE_1, "32 for a channel one above 1")                                                                 \
     X(SUM_ROUNDED, "half-way swatches with a rounded sum")                                                             \
+    X(HUE_0, "accepted hues with the whole part 0")                                                                    \
+    X(HUE_1, "accepted hues with the whole part 1")                                                                    \
+    X(HUE_2, "accepted hues with the whole part 2")                                                                    \
+    X(HUE_3, "accepted hues with the whole part 3")                                                                    \
+    X(HUE_4, "accepted hues with the whole part 4")                                                                    \
+    X(HUE_5, "accepted hues with the whole part 5")                                                                    \
+    X(HUE_WHOLE, "accepted hues with f = 0")                                                                           \
+    X(HUE_MINUS_ZERO, "accepted hues of minus zero")                                                                   \
+    X(HUE_SUBNORMAL, "accepted hues that are subnormal")                                                               \
+    X(HUE_BELOW_WHOLE, "accepted hues one below a whole number from 1 to 5")                                           \
+    X(HUE_BELOW_6, "accepted hues one below 6")                                                                        \
+    X(HUE_6, "33 for a hue of 6")                                                                                      \
+    X(HUE_BELOW_0, "33 for the hue nearest below 0")                                                                   \
+    X(SATURATION_0, "accepted hues with the saturation 0")                                                             \
+    X(SATURATION_MINUS_ZERO, "accepted hues with the saturation minus zero")                                           \
+    X(SATURATION_1, "accepted hues with the saturation 1")                                                             \
+    X(VALUE_0, "accepted hues with the value 0")                                                                       \
+    X(VALUE_MINUS_ZERO, "accepted hues with the value minus zero")                                                     \
+    X(VALUE_1, "accepted hues with the value 1")                                                                       \
+    X(HUE_HALF, "accepted hues with a channel on a half")                                                              \
+    X(HUE_TO_SUBNORMAL, "accepted hues with a normal value and a subnormal channel")                                   \
+    X(HUE_TO_ZERO, "accepted hues with a product rounded to 0")                                                        \
     X(COLOUR_COLOUR, "half-way of two colours")                                                                        \
     X(COLOUR_GREY, "half-way of a colour and a grey")                                                                  \
+    X(COLOUR_HUE, "half-way of a colour and a hue")                                                                    \
     X(GREY_COLOUR, "half-way of a grey and a colour")                                                                  \
     X(GREY_GREY, "half-way of two greys")                                                                              \
+    X(GREY_HUE, "half-way of a grey and a hue")                                                                        \
+    X(HUE_COLOUR, "half-way of a hue and a colour")                                                                    \
+    X(HUE_GREY, "half-way of a hue and a grey")                                                                        \
+    X(HUE_HUE, "half-way of two hues")                                                                                 \
+    X(MIX_MINUS_ZERO, "half-way channels of minus zero, one swatch a hue")                                             \
     X(SHEET_200, "accepted sheets of 200 curve lines")                                                                 \
     X(SHEET_SIDE_40, "accepted sheets of side 40")                                                                     \
     X(PART_HEADING, "parts that begin with the heading")                                                               \

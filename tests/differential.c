@@ -144,15 +144,9 @@ static int large_patch(void) {
 
 /* Swatches */
 
-static float float_of(uint32_t bits) {
-    float v;
-    memcpy(&v, &bits, 4);
-    return v;
-}
-
 static void print_swatch(const struct swatch *s) {
-    printf("  kind %" PRIu32 ", channels %08" PRIX32 " %08" PRIX32 " %08" PRIX32 "\n", s->kind, s->channel[0],
-           s->channel[1], s->channel[2]);
+    printf("  kind %" PRIu32 ", numbers %08" PRIX32 " %08" PRIX32 " %08" PRIX32 "\n", s->kind, s->number[0], s->number[1],
+           s->number[2]);
 }
 
 static size_t small_length(size_t right, int wrong) {
@@ -163,34 +157,74 @@ static size_t small_length(size_t right, int wrong) {
     return len;
 }
 
-static void meet_swatch(uint32_t side, const struct swatch *s, int64_t answer) {
-    int minus_zero = 0, subnormal = 0, dark = 0, above = 0;
+enum { ONE = 0x3F800000, SIX = 0x40C00000, LEAST_NORMAL = 0x00800000 };
+
+static const uint32_t MINUS_ZERO = 0x80000000;
+
+static int subnormal(uint32_t bits) { return 0 < bits && bits < LEAST_NORMAL; }
+
+static void meet_channels(uint32_t side, const struct swatch *s, int64_t answer) {
+    int minus_zero = 0, small = 0, dark = 0, above = 0;
     for (int k = 0; k < (s->kind == 1 ? 1 : 3); k++) {
-        uint32_t bits = s->channel[k];
-        minus_zero |= bits == 0x80000000;
-        subnormal |= 0 < bits && bits < 0x00800000;
-        dark |= 0x00800000 <= bits && bits < 0x3C000000;
-        above |= bits == 0x3F800001;
+        uint32_t bits = s->number[k];
+        minus_zero |= bits == MINUS_ZERO;
+        small |= subnormal(bits);
+        dark |= LEAST_NORMAL <= bits && bits < 0x3C000000;
+        above |= bits == ONE + 1;
     }
     meet(CHANNEL_ABOVE_1, answer == -32 && above);
     meet(CHANNEL_MINUS_ZERO, answer == 0 && minus_zero);
-    meet(CHANNEL_SUBNORMAL, answer == 0 && subnormal);
+    meet(CHANNEL_SUBNORMAL, answer == 0 && small);
     meet(CHANNEL_DARK, answer == 0 && dark);
     meet(CHANNEL_HALF, answer == 0 && channels_on_half(side, s) > 0);
 }
 
-static int to_cell_case(int wrong) {
+static void meet_accepted_hue(uint32_t side, const struct swatch *s) {
+    uint32_t hue = s->number[0], saturation = s->number[1], value = s->number[2], channel[3];
+    int small = 0, zero = 0, k = (int)whole_part_of_hue(hue);
+    channels_of(s, channel);
+    for (int at = 0; at < 3; at++) {
+        small |= subnormal(channel[at]);
+        zero |= channel[at] == 0;
+    }
+    meet((enum met)(HUE_0 + k), 1);
+    meet(HUE_WHOLE, float_of(hue) == (float)k);
+    meet(HUE_MINUS_ZERO, hue == MINUS_ZERO);
+    meet(HUE_SUBNORMAL, subnormal(hue));
+    meet(HUE_BELOW_WHOLE, k < 5 && float_of(hue + 1) == (float)(k + 1));
+    meet(HUE_BELOW_6, hue == SIX - 1);
+    meet(SATURATION_0, saturation == 0);
+    meet(SATURATION_MINUS_ZERO, saturation == MINUS_ZERO);
+    meet(SATURATION_1, saturation == ONE);
+    meet(VALUE_0, value == 0);
+    meet(VALUE_MINUS_ZERO, value == MINUS_ZERO);
+    meet(VALUE_1, value == ONE);
+    meet(HUE_HALF, channels_on_half(side, s) > 0);
+    meet(HUE_TO_SUBNORMAL, LEAST_NORMAL <= value && value <= ONE && small);
+    meet(HUE_TO_ZERO, 0 < value && value <= ONE && saturation < ONE && zero);
+}
+
+static void meet_swatch(uint32_t side, const struct swatch *s, int64_t answer) {
+    if (s->kind != 2)
+        meet_channels(side, s, answer);
+    else if (answer == 0)
+        meet_accepted_hue(side, s);
+    meet(HUE_6, answer == -33 && s->number[0] == SIX);
+    meet(HUE_BELOW_0, answer == -33 && s->number[0] == MINUS_ZERO + 1);
+}
+
+static int to_cell_case(uint32_t kind, int wrong) {
     struct order order = {0};
     struct swatch s;
     uint32_t side = one_in(8) ? bad_side() : 2 + below(63);
     unsigned faults = wrong ? 1 + below(3) : one_in(20) ? below(4) : 0;
     int64_t want, got;
-    random_swatch(&s, side);
+    random_swatch(&s, kind, side);
     if (faults & 1)
         s.kind = bad_kind();
     lend(&small, small_length(3, faults & 2));
     want = reference_to_cell(side, &s, small.want, small.len, &order);
-    got = gidzkhalu_to_cell(side, s.kind, float_of(s.channel[0]), float_of(s.channel[1]), float_of(s.channel[2]),
+    got = gidzkhalu_to_cell(side, s.kind, float_of(s.number[0]), float_of(s.number[1]), float_of(s.number[2]),
                             small.got, small.len);
     count_order(running.counts, &order);
     meet_swatch(side, &s, want);
@@ -203,13 +237,18 @@ static int to_cell_case(int wrong) {
     return 0;
 }
 
-static int to_cell(void) { return to_cell_case(0); }
+static int to_cell(void) { return to_cell_case(below(2), 0); }
+static int hue_to_cell(void) { return to_cell_case(2, 0); }
 
+/* Of an accepted call; its channels are in small.want. */
 static void meet_half_way(const struct swatch *a, const struct swatch *b) {
-    uint32_t bits = a->channel[0], other = b->channel[0];
+    static const uint8_t minus_zero[4] = {0, 0, 0, 0x80};
+    uint32_t bits = a->number[0], other = b->number[0];
     uint32_t low = bits < other ? bits : other, high = bits < other ? other : bits;
-    meet(a->kind == 0 ? (b->kind == 0 ? COLOUR_COLOUR : COLOUR_GREY) : (b->kind == 0 ? GREY_COLOUR : GREY_GREY), 1);
-    meet(SUM_ROUNDED, high < 0x80000000 && (low >> 23) + 1 == high >> 23 && low % 2 == 1);
+    int hue = a->kind == 2 || b->kind == 2;
+    meet((enum met)(COLOUR_COLOUR + KINDS_OF_SWATCH * a->kind + b->kind), 1);
+    meet(SUM_ROUNDED, !hue && high < MINUS_ZERO && (low >> 23) + 1 == high >> 23 && low % 2 == 1);
+    meet(MIX_MINUS_ZERO, hue && memcmp(small.want, minus_zero, 4) == 0);
 }
 
 static int half_way_case(int wrong) {
@@ -217,7 +256,7 @@ static int half_way_case(int wrong) {
     struct swatch a, b;
     unsigned faults = wrong ? 1 + below(7) : one_in(20) ? below(8) : 0;
     int64_t want, got;
-    random_swatch(&a, random_side());
+    random_swatch(&a, below(KINDS_OF_SWATCH), random_side());
     random_second(&b, &a);
     if (faults & 1)
         a.kind = bad_kind();
@@ -225,8 +264,8 @@ static int half_way_case(int wrong) {
         b.kind = bad_kind();
     lend(&small, small_length(12, faults & 4));
     want = reference_half_way(&a, &b, small.want, small.len, &order);
-    got = gidzkhalu_half_way(a.kind, float_of(a.channel[0]), float_of(a.channel[1]), float_of(a.channel[2]), b.kind,
-                             float_of(b.channel[0]), float_of(b.channel[1]), float_of(b.channel[2]), small.got,
+    got = gidzkhalu_half_way(a.kind, float_of(a.number[0]), float_of(a.number[1]), float_of(a.number[2]), b.kind,
+                             float_of(b.number[0]), float_of(b.number[1]), float_of(b.number[2]), small.got,
                              small.len);
     count_order(running.counts, &order);
     if (want == 0)
@@ -409,7 +448,7 @@ static int wrong_length(void) {
     case 0:
     case 1:
     case 2:
-        return to_cell_case(1);
+        return to_cell_case(below(KINDS_OF_SWATCH), 1);
     case 3:
     case 4:
     case 5:
@@ -497,7 +536,7 @@ static int list_of_calls(void) {
     return list_holds(length, start) || print_list("demand 3's first sentence does not hold", length, start);
 }
 
-/* Document 01's samples: the reference and the library give what is written there */
+/* The documents' samples: the reference and the library give what is written there, or follows by hand */
 
 static const struct {
     const char *name;
@@ -511,7 +550,7 @@ static const struct {
     {"K10", {0, 3, 3, 0}, 7, NULL},     {"K10, n = 8", {0, 3, 3, 0}, 8, ""}, {"K11", {5, 5, 5, 5}, 1, "55"}};
 
 static int known_failed(const char *name) {
-    printf("FAILED: document 01's sample %s\n", name);
+    printf("FAILED: the documents' sample %s\n", name);
     return 0;
 }
 
@@ -552,18 +591,36 @@ static int known_patch(void) {
     return 1;
 }
 
-static int known_swatch(uint32_t side, uint32_t bits, uint8_t coordinate) {
+static int known_swatch(uint32_t side, const struct swatch *s, const uint8_t cell[3]) {
     struct order order = {0};
-    struct swatch grey = {1, {bits, bits, bits}};
     uint8_t want[3] = {99, 99, 99}, got[3] = {99, 99, 99};
-    int64_t answer = reference_to_cell(side, &grey, want, 3, &order);
-    answer |= gidzkhalu_to_cell(side, 1, float_of(bits), 0, 0, got, 3);
-    for (int k = 0; k < 3; k++)
-        if (answer != 0 || want[k] != coordinate || got[k] != coordinate) {
-            printf("  side %" PRIu32 ", grey %08" PRIX32 ": expected %d, came %d\n", side, bits, coordinate, got[k]);
-            return known_failed("of swatches");
-        }
-    return 1;
+    int64_t answer = reference_to_cell(side, s, want, 3, &order);
+    answer |= gidzkhalu_to_cell(side, s->kind, float_of(s->number[0]), float_of(s->number[1]), float_of(s->number[2]),
+                                got, 3);
+    if (answer == 0 && memcmp(want, cell, 3) == 0 && memcmp(got, cell, 3) == 0)
+        return 1;
+    printf("  side %" PRIu32 ": expected %d %d %d, came %d %d %d\n", side, cell[0], cell[1], cell[2], got[0], got[1],
+           got[2]);
+    print_swatch(s);
+    return known_failed("of swatches");
+}
+
+static int known_grey(uint32_t side, uint32_t bits, uint8_t coordinate) {
+    struct swatch grey = {1, {bits, 0, 0}};
+    uint8_t cell[3] = {coordinate, coordinate, coordinate};
+    return known_swatch(side, &grey, cell);
+}
+
+/* Hue k + 1/4, saturation 1/2, value 1, by hand: p = 4/8, q = 7/8, r = 5/8, and side 9 has 8 cells from 0 to 1. */
+static int known_hues(void) {
+    static const uint32_t hue[6] = {0x3E800000, 0x3FA00000, 0x40100000, 0x40500000, 0x40880000, 0x40A80000};
+    static const uint8_t cell[6][3] = {{8, 5, 4}, {7, 8, 4}, {4, 8, 5}, {4, 7, 8}, {5, 4, 8}, {8, 4, 7}};
+    int good = 1;
+    for (int k = 0; k < 6; k++) {
+        struct swatch s = {2, {hue[k], 0x3F000000, ONE}};
+        good &= known_swatch(9, &s, cell[k]);
+    }
+    return good;
 }
 
 /* What the sheet program prints, by the library and by the reference. */
@@ -601,9 +658,9 @@ static const char LISTING[] = "    X    Y    Z MARK\n"
 
 static int document_samples(void) {
     int good = known_patch() & known_print(SHEET, LISTING) & known_print("", "REFUSED   41    1\n");
-    good &= known_swatch(2, 0x3F000000, 0) & known_swatch(3, 0x3E800000, 0) & known_swatch(3, 0x3E800001, 1);
+    good &= known_grey(2, 0x3F000000, 0) & known_grey(3, 0x3E800000, 0) & known_grey(3, 0x3E800001, 1) & known_hues();
     for (uint32_t side = 2; side <= 64; side++)
-        good &= known_swatch(side, 0x3F800000, (uint8_t)(side - 1));
+        good &= known_grey(side, ONE, (uint8_t)(side - 1));
     for (int k = 0; k < (int)(sizeof KNOWN / sizeof *KNOWN); k++)
         for (int axis = 0; axis < 3; axis++)
             good &= known_curve(k, axis);
@@ -614,7 +671,9 @@ static int document_samples(void) {
 
 static const int CHECK_ORDER[] = {51, 11, 13, 14, 15, 0}, LIST_ORDER[] = {51, 11, 13, 22, 14, 15, 0},
                  DRAW_ORDER[] = {51, 11, 21, 12, 13, 14, 15, 0}, CELL_ORDER[] = {53, 52, 11, 31, 32, 31, 32, 0},
-                 HALF_ORDER[] = {53, 52, 31, 32, 31, 32, 0}, SIDE_LINE_ORDER[] = {52, 21, 41, 42, 11, 43, 0},
+                 HUE_ORDER[] = {52, 11, 31, 33, 31, 32, 31, 32, 0},
+                 HALF_ORDER[] = {53, 52, 31, 33, 31, 32, 31, 33, 31, 32, 0},
+                 SIDE_LINE_ORDER[] = {52, 21, 41, 42, 11, 43, 0},
                  CURVE_LINE_ORDER[] = {52, 21, 44, 41, 42, 12, 13, 14, 15, 0}, PART_ORDER[] = {11, 21, 22, 0},
                  LINE_ORDER[] = {22, 0}, RECORD_ORDER[] = {51, 0}, OUT_ORDER[] = {53, 52, 0};
 
@@ -630,7 +689,8 @@ static const struct kind {
             {"check patch", 1000000, check_patch, {CHECK_ORDER, NULL}},
             {"draw patch", 1000000, draw_patch, {DRAW_ORDER, NULL}},
             {"swatch to cell", 4000000, to_cell, {CELL_ORDER, NULL}},
-            {"half-way", 4000000, half_way, {HALF_ORDER, NULL}},
+            {"hue to cell", 4000000, hue_to_cell, {CELL_ORDER, HUE_ORDER}},
+            {"half-way", 8000000, half_way, {HALF_ORDER, NULL}},
             {"sheet", 1000000, draw_sheet, {SIDE_LINE_ORDER, CURVE_LINE_ORDER}},
             {"part of a listing", 1000000, list_part, {PART_ORDER, NULL}},
             {"parts joined", 100000, parts_joined, {NULL, NULL}},

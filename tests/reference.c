@@ -245,7 +245,7 @@ void explain(const struct samples *s, uint32_t side, uint8_t mark, const uint8_t
 
 /* Swatches: a pattern's number is its significand times 2 to the power of its exponent - 150 */
 
-static const uint32_t ONE = 0x3F800000, INFINITE = 0x7F800000, SIGN = 0x80000000;
+static const uint32_t ONE = 0x3F800000, BELOW_SIX = 0x40BFFFFF, INFINITE = 0x7F800000, SIGN = 0x80000000;
 
 static uint32_t exponent_of(uint32_t bits) {
     uint32_t field = bits >> 23 & 0xFF;
@@ -259,22 +259,133 @@ static uint32_t significand_of(uint32_t bits) {
 
 static int infinite_or_no_number(uint32_t bits) { return (bits & ~SIGN) >= INFINITE; }
 
-/* An infinity is outside as well, minus zero is not. */
-static int outside_unit(uint32_t bits) {
+/* Below 0 or above the greatest. An infinity is outside as well, minus zero is not. */
+static int outside(uint32_t bits, uint32_t greatest) {
     uint32_t magnitude = bits & ~SIGN;
     if (magnitude > INFINITE)
         return 0;
-    return (bits & SIGN) != 0 ? magnitude != 0 : magnitude > ONE;
+    return (bits & SIGN) != 0 ? magnitude != 0 : magnitude > greatest;
 }
 
-/* A grey stands for three equal channels; a kind that does not exist is taken as three channels. */
-static uint32_t channel_of(const struct swatch *swatch, int k) { return swatch->channel[swatch->kind == 1 ? 0 : k]; }
-
-static void channels_order(const struct swatch *swatch, struct order *order) {
-    for (int k = 0; k < 3; k++) {
-        order_add(order, 31, infinite_or_no_number(channel_of(swatch, k)));
-        order_add(order, 32, outside_unit(channel_of(swatch, k)));
+/* A kind that does not exist is tried as three channels. */
+static void swatch_order(const struct swatch *swatch, struct order *order) {
+    for (int k = 0; k < (swatch->kind == 1 ? 1 : 3); k++) {
+        int hue = swatch->kind == 2 && k == 0;
+        order_add(order, 31, infinite_or_no_number(swatch->number[k]));
+        order_add(order, hue ? 33 : 32, outside(swatch->number[k], hue ? BELOW_SIX : ONE));
     }
+}
+
+/* A number not below 0 in units of 2^-300, low word first: a product of two f32 is a whole number of them. */
+enum { WORDS = 5, UNITS_OF_ONE = 300 };
+
+struct units {
+    uint64_t word[WORDS];
+};
+
+/* The number times 2^shift, below 2^320. */
+static struct units placed(uint64_t number, uint32_t shift) {
+    struct units u = {{0}};
+    u.word[shift / 64] = number << shift % 64;
+    if (shift / 64 < WORDS - 1 && shift % 64 != 0)
+        u.word[shift / 64 + 1] = number >> (64 - shift % 64);
+    return u;
+}
+
+/* Of a pattern the sign is left out. */
+static struct units units_of(uint32_t bits) {
+    return placed(significand_of(bits), exponent_of(bits) + UNITS_OF_ONE - 150);
+}
+
+static struct units product_of(uint32_t a, uint32_t b) {
+    return placed((uint64_t)significand_of(a) * significand_of(b), exponent_of(a) + exponent_of(b));
+}
+
+static struct units sum_of(struct units a, struct units b) {
+    wide carry = 0;
+    for (int k = 0; k < WORDS; k++) {
+        carry += (wide)a.word[k] + b.word[k];
+        a.word[k] = (uint64_t)carry;
+        carry >>= 64;
+    }
+    return a;
+}
+
+/* a - b, where b is not above a: a + (2^320 - 1 - b) + 1. */
+static struct units difference_of(struct units a, struct units b) {
+    for (int k = 0; k < WORDS; k++)
+        b.word[k] = ~b.word[k];
+    return sum_of(sum_of(a, b), placed(1, 0));
+}
+
+static struct units half_of(struct units a) {
+    for (int k = 0; k < WORDS; k++)
+        a.word[k] = a.word[k] >> 1 | (k < WORDS - 1 ? a.word[k + 1] << 63 : 0);
+    return a;
+}
+
+static int bit(struct units u, unsigned k) { return (int)(u.word[k / 64] >> k % 64 & 1); }
+
+static int any_below(struct units u, unsigned k) {
+    int any = 0;
+    for (unsigned w = 0; w < WORDS; w++)
+        if (64 * w < k)
+            any |= (64 * w + 64 <= k ? u.word[w] : u.word[w] << (64 * w + 64 - k)) != 0;
+    return any;
+}
+
+/* The pattern nearest to the number, below 4, a tie going to the even one: bits low to low + 23 are kept, the top one of
+   the number among them; below 2^-126 low is that of 2^-149, and the pattern is the significand alone. */
+static uint32_t pattern_of(struct units u) {
+    static const unsigned least = UNITS_OF_ONE - 149;
+    unsigned low = UNITS_OF_ONE + 1 - 23;
+    uint32_t kept = 0;
+    int half, rest;
+    while (low > least && !bit(u, low + 23))
+        low--;
+    half = bit(u, low - 1);
+    rest = any_below(u, low - 1);
+    for (unsigned k = 0; k < 24; k++)
+        kept |= (uint32_t)bit(u, low + k) << k;
+    if (half && (rest || kept % 2 == 1))
+        kept++;
+    return ((low - least) << 23) + kept;
+}
+
+/* The operations of a hue, each rounded once. No number is below 0; a product with one minus zero is minus zero. */
+static uint32_t times(uint32_t a, uint32_t b) { return ((a ^ b) & SIGN) | pattern_of(product_of(a, b)); }
+
+static uint32_t minus(struct units a, struct units b) { return pattern_of(difference_of(a, b)); }
+
+static uint32_t one_minus(uint32_t a) { return minus(units_of(ONE), units_of(a)); }
+
+/* What red, green and blue are for a whole part of the hue from 0 to 5. */
+enum { V, P, Q, R };
+
+static const uint8_t ROW[6][3] = {{V, R, P}, {Q, V, P}, {P, V, R}, {P, Q, V}, {R, P, V}, {V, P, Q}};
+
+uint32_t whole_part_of_hue(uint32_t h) {
+    return (uint32_t)(units_of(h).word[UNITS_OF_ONE / 64] >> UNITS_OF_ONE % 64);
+}
+
+static void hue_channels(uint32_t h, uint32_t s, uint32_t v, uint32_t channel[3]) {
+    uint32_t k = whole_part_of_hue(h), f = minus(units_of(h), placed(k, UNITS_OF_ONE)), of[4];
+    of[V] = v;
+    of[P] = times(v, one_minus(s));
+    of[Q] = times(v, one_minus(times(s, f)));
+    of[R] = times(v, one_minus(times(s, one_minus(f))));
+    for (int at = 0; at < 3; at++)
+        channel[at] = of[ROW[k][at]];
+}
+
+void channels_of(const struct swatch *swatch, uint32_t channel[3]) {
+    const uint32_t *number = swatch->number;
+    if (swatch->kind == 2) {
+        hue_channels(number[0], number[1], number[2], channel);
+        return;
+    }
+    for (int k = 0; k < 3; k++)
+        channel[k] = number[swatch->kind == 1 ? 0 : k];
 }
 
 /* 2 v (S-1) = *doubled / 2^*shift. A shift above 100 only says that the quotient is below 1: *doubled is below 2^31. */
@@ -296,85 +407,33 @@ static uint8_t coordinate_of(uint32_t side, uint32_t bits) {
 }
 
 int channels_on_half(uint32_t side, const struct swatch *swatch) {
+    uint32_t channel[3];
     int found = 0;
+    channels_of(swatch, channel);
     for (int k = 0; k < 3; k++) {
-        uint32_t bits = channel_of(swatch, k), shift;
+        uint32_t shift;
         wide doubled;
-        doubled_product(side, bits, &doubled, &shift);
-        found += doubled == ((wide)2 * coordinate_of(side, bits) + 1) << shift;
+        doubled_product(side, channel[k], &doubled, &shift);
+        found += doubled == ((wide)2 * coordinate_of(side, channel[k]) + 1) << shift;
     }
     return found;
 }
 
+static int no_kind(const struct swatch *swatch) { return swatch->kind > 2; }
+
 int64_t reference_to_cell(uint32_t side, const struct swatch *swatch, uint8_t *cell, size_t cell_len,
                           struct order *order) {
-    order_add(order, 53, swatch->kind > 1);
+    uint32_t channel[3];
+    order_add(order, 53, no_kind(swatch));
     order_add(order, 52, cell_len != 3);
     order_add(order, 11, side_outside(side));
-    channels_order(swatch, order);
+    swatch_order(swatch, order);
     if (order_first(order) != 0)
         return -order_first(order);
+    channels_of(swatch, channel);
     for (int k = 0; k < 3; k++)
-        cell[k] = coordinate_of(side, channel_of(swatch, k));
+        cell[k] = coordinate_of(side, channel[k]);
     return 0;
-}
-
-/* A number not below 0 in units of 2^-150, low word first; 2 is 2^151. */
-struct units {
-    uint64_t word[3];
-};
-
-static struct units units_of(uint32_t bits) {
-    struct units u = {{0, 0, 0}};
-    uint32_t word = exponent_of(bits) / 64, shift = exponent_of(bits) % 64;
-    wide placed = (wide)significand_of(bits) << shift;
-    u.word[word] = (uint64_t)placed;
-    if (word < 2)
-        u.word[word + 1] = (uint64_t)(placed >> 64);
-    return u;
-}
-
-static struct units sum_of(struct units a, struct units b) {
-    wide carry = 0;
-    for (int k = 0; k < 3; k++) {
-        carry += (wide)a.word[k] + b.word[k];
-        a.word[k] = (uint64_t)carry;
-        carry >>= 64;
-    }
-    return a;
-}
-
-static struct units half_of(struct units a) {
-    for (int k = 0; k < 3; k++)
-        a.word[k] = a.word[k] >> 1 | (k < 2 ? a.word[k + 1] << 63 : 0);
-    return a;
-}
-
-static int bit(struct units u, unsigned k) { return (int)(u.word[k / 64] >> k % 64 & 1); }
-
-static int any_below(struct units u, unsigned k) {
-    int any = 0;
-    for (unsigned w = 0; w < 3; w++)
-        if (64 * w < k)
-            any |= (64 * w + 64 <= k ? u.word[w] : u.word[w] << (64 * w + 64 - k)) != 0;
-    return any;
-}
-
-/* The pattern nearest to the number, a tie going to the even one: bits low to low + 23 are kept, the top one of the
-   number among them; below 2^-126 low is 1, and the pattern is the significand alone. */
-static uint32_t pattern_of(struct units u) {
-    unsigned low = 191 - 23;
-    uint32_t kept = 0;
-    int half, rest;
-    while (low > 1 && !bit(u, low + 23))
-        low--;
-    half = bit(u, low - 1);
-    rest = any_below(u, low - 1);
-    for (unsigned k = 0; k < 24; k++)
-        kept |= (uint32_t)bit(u, low + k) << k;
-    if (half && (rest || kept % 2 == 1))
-        kept++;
-    return ((low - 1) << 23) + kept;
 }
 
 static uint32_t half_way_channel(uint32_t a, uint32_t b) {
@@ -385,14 +444,20 @@ static uint32_t half_way_channel(uint32_t a, uint32_t b) {
 
 int64_t reference_half_way(const struct swatch *first, const struct swatch *second, uint8_t *channels,
                            size_t channels_len, struct order *order) {
-    order_add(order, 53, first->kind > 1 || second->kind > 1);
+    uint32_t a[3], b[3];
+    order_add(order, 53, no_kind(first) || no_kind(second));
     order_add(order, 52, channels_len != 12);
-    channels_order(first, order);
-    channels_order(second, order);
+    swatch_order(first, order);
+    swatch_order(second, order);
     if (order_first(order) != 0)
         return -order_first(order);
-    for (int k = 0; k < 12; k++)
-        channels[k] = (uint8_t)(half_way_channel(channel_of(first, k / 4), channel_of(second, k / 4)) >> 8 * (k % 4));
+    channels_of(first, a);
+    channels_of(second, b);
+    for (int k = 0; k < 3; k++) {
+        uint32_t mixed = half_way_channel(a[k], b[k]);
+        for (int at = 0; at < 4; at++)
+            channels[4 * k + at] = (uint8_t)(mixed >> 8 * at);
+    }
     return 0;
 }
 

@@ -1,5 +1,5 @@
-/* An exact reference for the C interface, written from document 01 alone: every sample is summed from its Bernstein
-   weights in 128-bit integers, without differences and remainders, and every f32 is taken as its bit pattern. */
+/* An exact reference for the C interface, written from documents 01 and 02 alone: every sample is summed from its
+   Bernstein weights in 128-bit integers, without differences and remainders, and every f32 is taken as its bit pattern. */
 #ifndef REFERENCE_H
 #define REFERENCE_H
 
@@ -64,10 +64,17 @@ int samples_hold(const struct samples *samples, uint32_t side, uint8_t mark, con
 /* Demand 3, first sentence: sets explained at each place that holds the mark within half a cell of a sample. */
 void explain(const struct samples *samples, uint32_t side, uint8_t mark, const uint8_t *grid, uint8_t *explained);
 
-/* A swatch: kind 0 has red, green, blue, kind 1 a grey in channel[0]; the channels are bit patterns. */
+/* A swatch: kind 0 has red, green, blue, kind 1 a grey in number[0], kind 2 hue, saturation, value; the numbers are bit
+   patterns. */
 struct swatch {
-    uint32_t kind, channel[3];
+    uint32_t kind, number[3];
 };
+
+/* Red, green and blue of an accepted swatch. */
+void channels_of(const struct swatch *swatch, uint32_t channel[3]);
+
+/* The whole part of an accepted hue. */
+uint32_t whole_part_of_hue(uint32_t h);
 
 int64_t reference_to_cell(uint32_t side, const struct swatch *swatch, uint8_t *cell, size_t cell_len,
                           struct order *order);

@@ -159,8 +159,8 @@ static struct figure {
     {"draw_curve", {0, 51, 11, 21, 12, 13, 14, 15}, -1, 0, 0, {0}, 0, ""},
     {"check_patch", {0, 51, 11, 13, 14, 15}, -1, 0, 0, {0}, 0, ""},
     {"draw_patch", {0, 51, 11, 21, 12, 13, 14, 15}, -1, 0, 0, {0}, 0, ""},
-    {"to_cell", {0, 53, 52, 11, 31, 32}, -1, 0, 0, {0}, 0, ""},
-    {"half_way", {0, 53, 52, 31, 32}, -1, 0, 0, {0}, 0, ""},
+    {"to_cell", {0, 53, 52, 11, 31, 33, 32}, -1, 0, 0, {0}, 0, ""},
+    {"half_way", {0, 53, 52, 31, 33, 32}, -1, 0, 0, {0}, 0, ""},
     {"draw_sheet", {0, 52, 21, 41, 42, 11, 43, 44, 12, 13, 14, 15}, -1, 0, 0, {0}, 0, ""},
     {"list_part", {0, 11, 21, 22}, -1, 0, 0, {0}, 0, ""},
     {"refusal_line", {0, 22}, -1, 0, 0, {0}, 0, ""},
@@ -350,15 +350,9 @@ static void random_draw_patch(void) { random_object_call(DRAW, 1); }
 
 /* Swatches */
 
-static float float_of(uint32_t bits) {
-    float v;
-    memcpy(&v, &bits, 4);
-    return v;
-}
-
 static void measure_to_cell(uint32_t side, const struct swatch *s, size_t cell_len) {
     uint8_t cell[16];
-    const uint32_t *v = s->channel;
+    const uint32_t *v = s->number;
     struct call call = {(uint64_t)gidzkhalu_to_cell, {side, s->kind, PLACE(cell), cell_len}, {v[0], v[1], v[2]}};
     measure(TO_CELL, gidzkhalu_to_cell(side, s->kind, float_of(v[0]), float_of(v[1]), float_of(v[2]), cell, cell_len),
             &call, "side %" PRIu32 ", kind %" PRIu32 ", %08" PRIX32 " %08" PRIX32 " %08" PRIX32, side, s->kind, v[0],
@@ -367,7 +361,7 @@ static void measure_to_cell(uint32_t side, const struct swatch *s, size_t cell_l
 
 static void measure_half_way(const struct swatch *first, const struct swatch *second, size_t channels_len) {
     uint8_t channels[16];
-    const uint32_t *v = first->channel, *w = second->channel;
+    const uint32_t *v = first->number, *w = second->number;
     struct call call = {(uint64_t)gidzkhalu_half_way,
                         {first->kind, second->kind, PLACE(channels), channels_len},
                         {v[0], v[1], v[2], w[0], w[1], w[2]}};
@@ -379,24 +373,26 @@ static void measure_half_way(const struct swatch *first, const struct swatch *se
             first->kind, second->kind, v[0], v[1], v[2], w[0], w[1], w[2]);
 }
 
-static const uint32_t KINDS[] = {0, 1, 2, 0xFFFFFFFF};
+static const uint32_t KINDS[] = {0, 1, 2, 3, 0xFFFFFFFF};
 static const size_t LENGTHS[] = {0, 1, 2, 3, 4, 11, 12, 13, 16};
 
-/* 0 and minus 0, the ends of subnormal and normal numbers, a half, 1 and the next, below 0, infinite, no number. */
-static const uint32_t CHANNELS[] = {0x00000000, 0x80000000, 0x00000001, 0x007FFFFF, 0x00800000, 0x3F000000, 0x3F800000,
-                                    0x3F800001, 0x80000001, 0xBF800000, 0x7F7FFFFF, 0x7F800000, 0xFF800000, 0x7FC00000};
+/* 0 and minus 0, the ends of subnormal and normal numbers, a half, 1 and the next, a hue between each two whole numbers
+   from 1 to 6, the last below 6, and 6, below 0, infinite, no number. */
+static const uint32_t REALS[] = {0x00000000, 0x80000000, 0x00000001, 0x007FFFFF, 0x00800000, 0x3F000000, 0x3F800000,
+                                 0x3F800001, 0x3FC00000, 0x40200000, 0x40600000, 0x40900000, 0x40B00000, 0x40BFFFFF,
+                                 0x40C00000, 0x80000001, 0xBF800000, 0x7F7FFFFF, 0x7F800000, 0xFF800000, 0x7FC00000};
 
 enum { HALF = 0x3F000000 };
 
-/* One channel is chosen, the others are a half. */
-static struct swatch chosen_swatch(uint32_t kind, size_t place, uint32_t channel) {
+/* One number is chosen, the others are a half. */
+static struct swatch chosen_swatch(uint32_t kind, size_t place, uint32_t number) {
     struct swatch s = {kind, {HALF, HALF, HALF}};
-    s.channel[place] = channel;
+    s.number[place] = number;
     return s;
 }
 
-static void chosen_cells(uint32_t kind, size_t place, uint32_t channel) {
-    struct swatch s = chosen_swatch(kind, place, channel);
+static void chosen_cells(uint32_t kind, size_t place, uint32_t number) {
+    struct swatch s = chosen_swatch(kind, place, number);
     for (size_t side = 0; side < SIZE(SIDES); side++)
         for (size_t len = 0; len < SIZE(LENGTHS); len++)
             measure_to_cell(SIDES[side], &s, LENGTHS[len]);
@@ -405,15 +401,15 @@ static void chosen_cells(uint32_t kind, size_t place, uint32_t channel) {
 static void chosen_to_cells(void) {
     for (size_t k = 0; k < SIZE(KINDS); k++)
         for (size_t place = 0; place < 3; place++)
-            for (size_t v = 0; v < SIZE(CHANNELS); v++)
-                chosen_cells(KINDS[k], place, CHANNELS[v]);
+            for (size_t v = 0; v < SIZE(REALS); v++)
+                chosen_cells(KINDS[k], place, REALS[v]);
 }
 
 static void chosen_halves(uint32_t kind, uint32_t kind2, size_t place) {
-    for (size_t v = 0; v < SIZE(CHANNELS); v++)
-        for (size_t w = 0; w < SIZE(CHANNELS); w++) {
-            struct swatch first = chosen_swatch(kind, place, CHANNELS[v]);
-            struct swatch second = chosen_swatch(kind2, place, CHANNELS[w]);
+    for (size_t v = 0; v < SIZE(REALS); v++)
+        for (size_t w = 0; w < SIZE(REALS); w++) {
+            struct swatch first = chosen_swatch(kind, place, REALS[v]);
+            struct swatch second = chosen_swatch(kind2, place, REALS[w]);
             measure_half_way(&first, &second, 12);
             measure_half_way(&first, &second, LENGTHS[v % SIZE(LENGTHS)]);
         }
@@ -431,7 +427,7 @@ static size_t random_length(size_t right) { return one_in(16) ? LENGTHS[below(SI
 static void random_to_cell(void) {
     uint32_t side = one_in(8) ? bad_side() : 2 + below(63);
     struct swatch s;
-    random_swatch(&s, side);
+    random_swatch(&s, below(KINDS_OF_SWATCH), side);
     if (one_in(16))
         s.kind = bad_kind();
     measure_to_cell(side, &s, random_length(3));
@@ -439,7 +435,7 @@ static void random_to_cell(void) {
 
 static void random_half_way(void) {
     struct swatch first, second;
-    random_swatch(&first, random_side());
+    random_swatch(&first, below(KINDS_OF_SWATCH), random_side());
     random_second(&second, &first);
     if (one_in(16))
         first.kind = bad_kind();
