@@ -192,6 +192,8 @@ void agree_on_inputs(void)
         for (int k = 0; k < SHEETS; k++)
             agree_on_sheet(set, k);
     }
+    for (size_t i = 0; i < swatches; i++)
+        agree_on_swatches(HUES, i, 2);
 }
 
 /* Random calls, good and bad. */
@@ -248,33 +250,64 @@ static void some_patch(void)
     agree("check_patch", call_check_patch, 0);
 }
 
-/* Any bits, an end, a channel of either set, or a float beside a half. */
-static float some_channel(uint32_t side)
+static float next_to(float v)
+{
+    uint32_t bits;
+    memcpy(&bits, &v, sizeof bits);
+    bits += random_below(3) - 1;
+    memcpy(&v, &bits, sizeof v);
+    return v;
+}
+
+/* Any bits or an end. */
+static float odd_number(void)
 {
     static const float ends[] = {0.0f, -0.0f, 1.0f, 0x1p-149f, 0x1p-126f, 0x1.fffffep-1f, 0x1.000002p0f, 0x1p-7f};
-    uint32_t way = random_below(16), bits = (uint32_t)random_bits();
-    float v = (float)(2 * random_below(side) + 1) / (float)(2 * (side - 1));
-    if (way == 0)
-        memcpy(&v, &bits, sizeof v);
-    if (way == 1)
-        v = ends[random_below(sizeof ends / sizeof *ends)];
-    if (2 <= way && way <= 8)
-        v = random_channel(way & 1);
-    if (way > 8) {
-        memcpy(&bits, &v, sizeof bits);
-        bits += random_below(3) - 1;
-        memcpy(&v, &bits, sizeof v);
-    }
-    return v;
+    uint32_t bits = (uint32_t)random_bits();
+    float v;
+    memcpy(&v, &bits, sizeof v);
+    return rarely(2) ? v : ends[random_below(sizeof ends / sizeof *ends)];
+}
+
+/* An odd number, a channel of either set, or a float beside a half. */
+static float some_channel(uint32_t side)
+{
+    uint32_t way = random_below(16);
+    if (way < 2)
+        return odd_number();
+    if (way < 9)
+        return random_channel(way & 1);
+    return next_to((float)(2 * random_below(side) + 1) / (float)(2 * (side - 1)));
+}
+
+/* An odd number, a hue of the set, or a float beside a whole number from 0 to 6. */
+static float some_hue(void)
+{
+    uint32_t way = random_below(16);
+    if (way < 2)
+        return odd_number();
+    return way < 9 ? random_hue() : next_to((float)random_below(7));
+}
+
+static uint32_t some_kind(void)
+{
+    return random_below(rarely(20) ? 4 : 3);
+}
+
+/* The three numbers of a swatch. */
+static void some_numbers(uint32_t kind, uint32_t side, float *numbers)
+{
+    for (int i = 0; i < 3; i++)
+        numbers[i] = kind == 2 && i == 0 ? some_hue() : some_channel(side);
 }
 
 static void some_swatches(void)
 {
     in.side = some_side();
-    in.kind = random_below(rarely(20) ? 3 : 2);
-    in.kind2 = random_below(rarely(20) ? 3 : 2);
-    for (int i = 0; i < 6; i++)
-        in.a[i] = some_channel(in.side < 2 ? 2 : in.side);
+    in.kind = some_kind();
+    in.kind2 = some_kind();
+    some_numbers(in.kind, in.side < 2 ? 2 : in.side, in.a);
+    some_numbers(in.kind2, in.side < 2 ? 2 : in.side, in.a + 3);
     in.lent_len = rarely(20) ? 2 + random_below(3) : 3;
     agree("to_cell", call_to_cell, 16);
     in.lent_len = rarely(20) ? 11 + random_below(3) : 12;
@@ -401,11 +434,11 @@ static void wrong_patches(int set)
               of);
 }
 
-static void wrong_swatches(int set)
+static void wrong_swatches(int set, uint32_t kind, const char *cells, const char *mixes)
 {
     size_t count = 0, mixed = 0;
     for (size_t i = 0; i < swatches; i++) {
-        take_swatches(set, i, 0);
+        take_swatches(set, i, kind);
         in.lent_len = 3;
         both(call_to_cell, 3);
         count += wrong(3, 3);
@@ -413,8 +446,8 @@ static void wrong_swatches(int set)
         both(call_half_way, 12);
         mixed += wrong(12, 12);
     }
-    say_wrong(set == 0 ? "swatches, bright: cells" : "swatches, dark: cells", count, swatches);
-    say_wrong(set == 0 ? "swatches, bright: half-way" : "swatches, dark: half-way", mixed, swatches);
+    say_wrong(cells, count, swatches);
+    say_wrong(mixes, mixed, swatches);
 }
 
 static void wrong_sheets(int set)
@@ -435,8 +468,9 @@ void count_wrong_cells(void)
     wrong_curves();
     wrong_patches(0);
     wrong_patches(1);
-    wrong_swatches(0);
-    wrong_swatches(1);
+    wrong_swatches(BRIGHT, 0, "swatches, bright: cells", "swatches, bright: half-way");
+    wrong_swatches(DARK, 0, "swatches, dark: cells", "swatches, dark: half-way");
+    wrong_swatches(HUES, 2, "hues: cells", "hues: half-way");
     wrong_sheets(0);
     wrong_sheets(1);
 }

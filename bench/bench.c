@@ -95,6 +95,11 @@ static size_t grey_cells(const struct box *box, int set)
     return cells_of(box, set, 1);
 }
 
+static size_t hue_cells(const struct box *box, int set)
+{
+    return cells_of(box, set, 2);
+}
+
 static size_t mixes_of(const struct box *box, int set, uint32_t kind)
 {
     for (size_t i = 0; i < swatches; i++) {
@@ -112,6 +117,11 @@ static size_t color_mixes(const struct box *box, int set)
 static size_t grey_mixes(const struct box *box, int set)
 {
     return mixes_of(box, set, 1);
+}
+
+static size_t hue_mixes(const struct box *box, int set)
+{
+    return mixes_of(box, set, 2);
 }
 
 static void list_cube(const struct box *box, const uint8_t *cube)
@@ -158,14 +168,16 @@ static const struct row {
     {"check it", "sample", "check_patch", check_patches, 0, 3},
     {"draw a patch, 256 × 256, side 64", "sample", "draw_patch", draw_patches, 1, 4},
     {"check it", "sample", "check_patch", check_patches, 1, 3},
-    {"swatch to cell, colour, bright", "call", "to_cell", color_cells, 0, 4},
-    {"swatch to cell, colour, dark", "call", "to_cell", color_cells, 1, 4},
-    {"swatch to cell, grey, bright", "call", "to_cell", grey_cells, 0, 4},
-    {"swatch to cell, grey, dark", "call", "to_cell", grey_cells, 1, 4},
-    {"half-way, colour, bright", "call", "half_way", color_mixes, 0, 4},
-    {"half-way, colour, dark", "call", "half_way", color_mixes, 1, 4},
-    {"half-way, grey, bright", "call", "half_way", grey_mixes, 0, 4},
-    {"half-way, grey, dark", "call", "half_way", grey_mixes, 1, 4},
+    {"swatch to cell, colour, bright", "call", "to_cell", color_cells, BRIGHT, 4},
+    {"swatch to cell, colour, dark", "call", "to_cell", color_cells, DARK, 4},
+    {"swatch to cell, grey, bright", "call", "to_cell", grey_cells, BRIGHT, 4},
+    {"swatch to cell, grey, dark", "call", "to_cell", grey_cells, DARK, 4},
+    {"hue to cell", "call", "to_cell", hue_cells, HUES, 4},
+    {"half-way, colour, bright", "call", "half_way", color_mixes, BRIGHT, 4},
+    {"half-way, colour, dark", "call", "half_way", color_mixes, DARK, 4},
+    {"half-way, grey, bright", "call", "half_way", grey_mixes, BRIGHT, 4},
+    {"half-way, grey, dark", "call", "half_way", grey_mixes, DARK, 4},
+    {"half-way, hues", "call", "half_way", hue_mixes, HUES, 4},
     {"sheet of 200 lines to listing, sparse", "sheet", "draw_sheet list_part", draw_and_list_sheets, 0, 4},
     {"of it the drawing", "sheet", "draw_sheet", draw_sheets, 0, 4},
     {"of it the listing", "sheet", "list_part", list_sheets, 0, 4},

@@ -2,7 +2,8 @@
    prefix, and before it:
      curves    step_too_long, list_samples, mark_samples
      patches   patch_step_too_long, mark_rows
-     swatches  refusal_of_one and refusal_of_three, 0 or the number of channels; coordinate; mix, of two channels */
+     swatches  refusal_of_one and refusal_of_three, 0 or the number of channels; refusal_of_hue, of hue, saturation and
+               value; coordinate; mix, of two channels */
 #ifndef CALLS_H
 #define CALLS_H
 
@@ -82,12 +83,51 @@ answer CALL(draw_patch)(uint32_t side, const uint8_t *points, size_t points_len,
 
 static inline int refusal_of_swatch(uint32_t kind, float a, float b, float c)
 {
+    if (kind == 2)
+        return refusal_of_hue(a, b, c);
     return kind == 1 ? refusal_of_one(a) : refusal_of_three(a, b, c);
+}
+
+struct rgb {
+    float red, green, blue;
+};
+
+/* A product that is taken from 1 is a statement of its own: no compiler makes one operation of the two. */
+static inline struct rgb rgb_of_hue(float h, float s, float v)
+{
+    int k = (int)h;
+    float f = h - (float)k;
+    float up = s * (1.0f - f);
+    float down = s * f;
+    float p = v * (1.0f - s), q = v * (1.0f - down), r = v * (1.0f - up);
+    switch (k) {
+    case 0:
+        return (struct rgb){v, r, p};
+    case 1:
+        return (struct rgb){q, v, p};
+    case 2:
+        return (struct rgb){p, v, r};
+    case 3:
+        return (struct rgb){p, q, v};
+    case 4:
+        return (struct rgb){r, p, v};
+    default:
+        return (struct rgb){v, p, q};
+    }
+}
+
+static inline struct rgb rgb_of(uint32_t kind, float a, float b, float c)
+{
+    if (kind == 2)
+        return rgb_of_hue(a, b, c);
+    if (kind == 1)
+        b = c = a;
+    return (struct rgb){a, b, c};
 }
 
 answer CALL(to_cell)(uint32_t side, uint32_t kind, float a, float b, float c, uint8_t *cell, size_t cell_len)
 {
-    if (kind > 1)
+    if (kind > 2)
         return -53;
     if (cell_len != 3)
         return -52;
@@ -100,16 +140,17 @@ answer CALL(to_cell)(uint32_t side, uint32_t kind, float a, float b, float c, ui
         cell[0] = cell[1] = cell[2] = coordinate(side, a);
         return 0;
     }
-    cell[0] = coordinate(side, a);
-    cell[1] = coordinate(side, b);
-    cell[2] = coordinate(side, c);
+    struct rgb w = rgb_of(kind, a, b, c);
+    cell[0] = coordinate(side, w.red);
+    cell[1] = coordinate(side, w.green);
+    cell[2] = coordinate(side, w.blue);
     return 0;
 }
 
 answer CALL(half_way)(uint32_t kind, float a, float b, float c, uint32_t kind2, float a2, float b2, float c2,
                       uint8_t *channels, size_t channels_len)
 {
-    if (kind > 1 || kind2 > 1)
+    if (kind > 2 || kind2 > 2)
         return -53;
     if (channels_len != 12)
         return -52;
@@ -118,11 +159,8 @@ answer CALL(half_way)(uint32_t kind, float a, float b, float c, uint32_t kind2, 
         refusal = refusal_of_swatch(kind2, a2, b2, c2);
     if (refusal != 0)
         return -refusal;
-    if (kind == 1)
-        b = c = a;
-    if (kind2 == 1)
-        b2 = c2 = a2;
-    float mixed[3] = {mix(a, a2), mix(b, b2), mix(c, c2)};
+    struct rgb v = rgb_of(kind, a, b, c), w = rgb_of(kind2, a2, b2, c2);
+    float mixed[3] = {mix(v.red, w.red), mix(v.green, w.green), mix(v.blue, w.blue)};
     memcpy(channels, mixed, sizeof mixed); /* x86-64 has the low byte first */
     return 0;
 }

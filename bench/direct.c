@@ -156,6 +156,14 @@ static int refusal_of_three(float a, float b, float c)
     return refusal != 0 ? refusal : refusal_of_one(c);
 }
 
+static int refusal_of_hue(float h, float s, float v)
+{
+    if (!(0.0f <= h && h < 6.0f))
+        return isfinite(h) ? 33 : 31;
+    int refusal = refusal_of_one(s);
+    return refusal != 0 ? refusal : refusal_of_one(v);
+}
+
 static inline uint8_t coordinate(uint32_t side, float v)
 {
     double exact = (double)v * (side - 1);

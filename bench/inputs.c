@@ -6,7 +6,7 @@
 #include <string.h>
 
 uint8_t curves[CURVES][12], patches[2][PATCHES][48], sheets[2][SHEETS][SHEET_BYTES];
-float (*channels[2])[6];
+float (*channels[3])[6];
 size_t swatches;
 
 static uint64_t state;
@@ -69,6 +69,13 @@ float random_channel(int dark)
     return dark && random_below(10) != 0 ? v * 0x1p-7f : v;
 }
 
+/* The product may round to 6. */
+float random_hue(void)
+{
+    float h = 6.0f * random_channel(0);
+    return h < 6.0f ? h : 0.0f;
+}
+
 static char *put_field(char *text, uint32_t v)
 {
     return text + sprintf(text, "%5u", (unsigned)v);
@@ -91,14 +98,14 @@ void random_sheet(uint8_t sheet[SHEET_BYTES], int dense)
     memcpy(sheet, text, SHEET_BYTES);
 }
 
-static void make_channels(int dark)
+static void make_channels(int set)
 {
-    channels[dark] = malloc(swatches * sizeof *channels[dark]);
-    if (!channels[dark])
+    channels[set] = malloc(swatches * sizeof *channels[set]);
+    if (!channels[set])
         exit(2);
     for (size_t i = 0; i < swatches; i++)
         for (int c = 0; c < 6; c++)
-            channels[dark][i][c] = random_channel(dark);
+            channels[set][i][c] = set == HUES && c % 3 == 0 ? random_hue() : random_channel(set == DARK);
 }
 
 void make_inputs(size_t swatch_count)
@@ -116,4 +123,5 @@ void make_inputs(size_t swatch_count)
         for (int k = 0; k < SHEETS; k++)
             random_sheet(sheets[set][k], set);
     }
+    make_channels(HUES);
 }

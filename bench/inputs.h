@@ -24,8 +24,11 @@ extern uint8_t curves[CURVES][12];
 /* Accepted patches, side 64: set 0 with 64 × 64 steps, set 1 with 256 × 256. */
 extern uint8_t patches[2][PATCHES][48];
 
-/* Six channels for each pair of swatches: set 0 bright, uniform in 0 to 1; set 1 dark, nine of ten below 1/128. */
-extern float (*channels[2])[6];
+/* Six numbers for each pair of swatches. Of colours and greys, channels: set 0 bright, uniform in 0 to 1; set 1 dark, nine
+   of ten below 1/128. Of hues, hue, saturation and value: set 2, uniform. */
+enum { BRIGHT, DARK, HUES };
+
+extern float (*channels[3])[6];
 extern size_t swatches;
 
 /* Accepted sheets of 200 curve lines, side 40: set 0 short strokes, set 1 long ones. */
@@ -38,6 +41,7 @@ void seed(uint64_t s);
 uint64_t random_bits(void);
 uint32_t random_below(uint32_t n);
 float random_channel(int dark);
+float random_hue(void);
 
 /* Coordinates of so many points in a box of the given width, somewhere in a cube. */
 void random_points(uint8_t *points, int count, uint32_t side, uint32_t width);

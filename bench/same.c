@@ -264,6 +264,16 @@ static inline int refusal_of_three(float a, float b, float c)
     return channel_refusal(!in_range(a) ? a : !in_range(b) ? b : c);
 }
 
+static inline int refusal_of_hue(float h, float s, float v)
+{
+    bool hue_in_range = 0.0f <= h && h < 6.0f;
+    if (hue_in_range && in_range(s) && in_range(v))
+        return 0;
+    if (!hue_in_range)
+        return isfinite(h) ? 33 : 31;
+    return channel_refusal(in_range(s) ? v : s);
+}
+
 /* With v's exponent x, v is mantissa / 2^(150 - x), and w / 2^(149 - x) is twice v × (side - 1): rounded up and halved,
    a half goes down. w is below 2^30, so a shift of 31 serves for every longer one. */
 static inline uint8_t coordinate(uint32_t side, float v)

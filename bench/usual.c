@@ -95,6 +95,15 @@ static int refusal_of_three(float a, float b, float c)
     return a < 0 || b < 0 || c < 0 || a > 1 || b > 1 || c > 1 ? 32 : 0;
 }
 
+static int refusal_of_hue(float h, float s, float v)
+{
+    if (isnan(h) || isnan(s) || isnan(v))
+        return 31;
+    if (h < 0 || h >= 6)
+        return 33;
+    return s < 0 || v < 0 || s > 1 || v > 1 ? 32 : 0;
+}
+
 static inline uint8_t coordinate(uint32_t side, float v)
 {
     return (uint8_t)(v * (float)(side - 1) + 0.5f);

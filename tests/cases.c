@@ -380,7 +380,15 @@ static uint32_t random_channel(uint32_t side) {
     }
 }
 
-/* Hues over all of 0 to 6, at and around whole numbers, and refused ones. */
+/* A whole number from 0 to 6, or one of the two f32 next to it on either side; minus zero is next to 0. */
+static uint32_t near_whole(void) {
+    uint32_t whole = below(7), away = below(3);
+    if (whole == 0)
+        return (one_in(2) ? 0 : 0x80000000) + away;
+    return one_in(2) ? bits_of((float)whole) + away : bits_of((float)whole) - away;
+}
+
+/* Hues over all of 0 to 6, near whole numbers, and refused ones. */
 static uint32_t random_hue(void) {
     static const uint32_t refused[] = {0x40C00000, 0x40C00001, 0x40E00000, 0x41C00000, 0x80000001, 0xBF800000,
                                        0xC0A00000, 0x7F800000, 0xFF800000, 0x7FC00000, 0xFF800001};
@@ -410,7 +418,7 @@ static uint32_t random_hue(void) {
     case 15:
     case 16:
     case 17:
-        return bits_of((float)below(7)) + below(5) - 2;
+        return near_whole();
     default:
         return bits_of((float)(below(6u << 29) / 536870912.0));
     }
