@@ -368,6 +368,7 @@ uint32_t whole_part_of_hue(uint32_t h) {
     return (uint32_t)(units_of(h).word[UNITS_OF_ONE / 64] >> UNITS_OF_ONE % 64);
 }
 
+/* f is without a sign: a minus zero makes no difference in 1 - f and 1 - s f. */
 static void hue_channels(uint32_t h, uint32_t s, uint32_t v, uint32_t channel[3]) {
     uint32_t k = whole_part_of_hue(h), f = minus(units_of(h), placed(k, UNITS_OF_ONE)), of[4];
     of[V] = v;
