@@ -92,28 +92,27 @@ struct rgb {
     float red, green, blue;
 };
 
-/* A product that is taken from 1 is a statement of its own: no compiler makes one operation of the two. */
+/* The product that is taken from 1 is a statement of its own: no compiler makes one operation of the two. */
+static inline float part(float v, float s, float f)
+{
+    float taken = s * f;
+    return v * (1.0f - taken);
+}
+
 static inline struct rgb rgb_of_hue(float h, float s, float v)
 {
-    int k = (int)h;
-    float f = h - (float)k;
-    float up = s * (1.0f - f);
-    float down = s * f;
-    float p = v * (1.0f - s), q = v * (1.0f - down), r = v * (1.0f - up);
-    switch (k) {
-    case 0:
-        return (struct rgb){v, r, p};
-    case 1:
-        return (struct rgb){q, v, p};
-    case 2:
-        return (struct rgb){p, v, r};
-    case 3:
-        return (struct rgb){p, q, v};
-    case 4:
-        return (struct rgb){r, p, v};
-    default:
-        return (struct rgb){v, p, q};
-    }
+    float p = v * (1.0f - s);
+    if (h < 1.0f)
+        return (struct rgb){v, part(v, s, 1.0f - h), p};
+    if (h < 2.0f)
+        return (struct rgb){part(v, s, h - 1.0f), v, p};
+    if (h < 3.0f)
+        return (struct rgb){p, v, part(v, s, 1.0f - (h - 2.0f))};
+    if (h < 4.0f)
+        return (struct rgb){p, part(v, s, h - 3.0f), v};
+    if (h < 5.0f)
+        return (struct rgb){part(v, s, 1.0f - (h - 4.0f)), p, v};
+    return (struct rgb){v, p, part(v, s, h - 5.0f)};
 }
 
 static inline struct rgb rgb_of(uint32_t kind, float a, float b, float c)
@@ -155,11 +154,13 @@ answer CALL(half_way)(uint32_t kind, float a, float b, float c, uint32_t kind2, 
     if (channels_len != 12)
         return -52;
     int refusal = refusal_of_swatch(kind, a, b, c);
-    if (refusal == 0)
-        refusal = refusal_of_swatch(kind2, a2, b2, c2);
     if (refusal != 0)
         return -refusal;
-    struct rgb v = rgb_of(kind, a, b, c), w = rgb_of(kind2, a2, b2, c2);
+    struct rgb v = rgb_of(kind, a, b, c);
+    refusal = refusal_of_swatch(kind2, a2, b2, c2);
+    if (refusal != 0)
+        return -refusal;
+    struct rgb w = rgb_of(kind2, a2, b2, c2);
     float mixed[3] = {mix(v.red, w.red), mix(v.green, w.green), mix(v.blue, w.blue)};
     memcpy(channels, mixed, sizeof mixed); /* x86-64 has the low byte first */
     return 0;

@@ -16,11 +16,12 @@ use Rattle.swatch.specs.ToCell.{IsCell, cellRefusals}
 use Rattle.swatch.specs.HalfWay.{IsHalfWay, halfWayRefusals}
 use Rattle.exports.specs.Signed.{signed, otherLength}
 
--- Kind 0 is a colour of three channels, kind 1 a grey, which is the first number, and kind 2 hue, saturation and value.
+-- Kind 0 is a colour of three channels, kind 2 hue, saturation and value, and any other a grey, which is the first number:
+-- kind 1, since 53 refuses the rest.
 abbrev pub swatchOf : (kind : ℕ) (a b c : Float) → Swatch
 swatchOf kind a b c =
     cond (eqb kind 0) (Color (record { red = a; green = b; blue = c }))
-    (cond (eqb kind 1) (Grey a) (Hue (record { hue = a; saturation = b; value = c })))
+    (cond (eqb kind 2) (Hue (record { hue = a; saturation = b; value = c })) (Grey a))
 
 -- The four bytes of a channel, the low byte first.
 abbrev pub channelBytes : Float → List ℕ

@@ -14,24 +14,23 @@ use swatch::CellAnswer;
 use swatch::HalfWayAnswer;
 use swatch::Swatch;
 
-// Kind 0 is a colour, kind 1 a grey, any other a hue.
+// Kind 0 is a colour, kind 2 a hue, any other a grey. With all kinds up to 2 named, the kind is the enum's tag.
 fn swatch_of(kind: u32, a: f32, b: f32, c: f32) -> Swatch
     ensures { λ r. ⌜ r ≡ swatchOf kind a b c ⌝ }
 {
-    if kind == 0 {
-        Swatch::Color(Rgb {
+    match kind {
+        0 => Swatch::Color(Rgb {
             red: a,
             green: b,
             blue: c,
-        })
-    } else if kind == 1 {
-        Swatch::Grey(a)
-    } else {
-        Swatch::Hue(Hsv {
+        }),
+        1 => Swatch::Grey(a),
+        2 => Swatch::Hue(Hsv {
             hue: a,
             saturation: b,
             value: c,
-        })
+        }),
+        _ => Swatch::Grey(a),
     }
 }
 

@@ -66,10 +66,13 @@ pub fn half_way(a: Swatch, b: Swatch) -> HalfWayAnswer
 {
     match swatch_verdict(a) {
         Verdict::Refused(n) => HalfWayAnswer::Refused(n),
-        Verdict::Accepted => match swatch_verdict(b) {
-            Verdict::Refused(n) => HalfWayAnswer::Refused(n),
-            Verdict::Accepted => HalfWayAnswer::Mixed(rgb_half_way(channels(a), channels(b))),
-        },
+        Verdict::Accepted => {
+            let first = channels(a);
+            match swatch_verdict(b) {
+                Verdict::Refused(n) => HalfWayAnswer::Refused(n),
+                Verdict::Accepted => HalfWayAnswer::Mixed(rgb_half_way(first, channels(b))),
+            }
+        }
     }
 }
 

@@ -22,33 +22,33 @@ first c = sym (c .before .before .swatch-verdict .ensures) ∙ ap verdictOf (c .
 
 -- Past the second match the second swatch is.
 second : (c : tie.After-enum-told2)
-    → firstThat (swatchRefusals (c .before .before .before .before .before .before .args .b)) ≡ accepted
+    → firstThat (swatchRefusals (c .before .before .before .before .before .before .before .args .b)) ≡ accepted
 second c = sym (c .before .before .swatch-verdict2 .ensures) ∙ ap verdictOf (c .enum-told2 .given .1)
 
 returns-2 : tie.Need-returns-2
 returns-2 c =
     let v = c .before .before .before in
-    let s = v .before .before .before .before .args in
+    let s = v .before .before .before .before .before .args in
     first-append (swatchRefusals (s .a)) (swatchRefusals (s .b))
-    ∙ rw (first (v .before), sym (v .swatch-verdict2 .ensures) ∙ ap verdictOf (c .before .n2 .given .1))
+    ∙ rw (first (v .before .before), sym (v .swatch-verdict2 .ensures) ∙ ap verdictOf (c .before .n2 .given .1))
 
 rgb-half-way-requires : tie.Need-rgb-half-way-requires
 rgb-half-way-requires c κs =
-    let t = c .before .before in
-    let s = t .before .before .before .before .before .before .args in (
-      rw (c .before .channels .ensures) (swatch-in-range (s .a) (first (t .before .before .before))),
+    let t = c .before in
+    let k = t .before .before .before in
+    let s = k .before .before .before .before .args in (
+      rw (k .channels .ensures) (swatch-in-range (s .a) (first (k .before))),
       rw (c .channels2 .ensures) (swatch-in-range (s .b) (second t)),
     )
 
 returns-3 : tie.Need-returns-3
 returns-3 c =
-    let t = c .before .before .before in
-    let s = t .before .before .before .before .before .before .args in
+    let t = c .before .before in
+    let k = t .before .before .before in
+    let s = k .before .before .before .before .args in
     record {
-      no-number =
-          first-append (swatchRefusals (s .a)) (swatchRefusals (s .b))
-          ∙ rw (first (t .before .before .before), second t);
-      mixed = rw (← c .before .before .channels .ensures, ← c .before .channels2 .ensures) (c .rgb-half-way .ensures);
+      no-number = first-append (swatchRefusals (s .a)) (swatchRefusals (s .b)) ∙ rw (first (k .before), second t);
+      mixed = rw (← k .channels .ensures, ← c .before .channels2 .ensures) (c .rgb-half-way .ensures);
     }
 
 swatch-verdict-requires : tie.Need-swatch-verdict-requires
@@ -70,10 +70,10 @@ enum-told-2 : tie.Need-enum-told-2
 enum-told-2 c = search needs
 
 channels-requires : tie.Need-channels-requires
-channels-requires c κs = first (c .before .before .before)
+channels-requires c κs = first c
 
 channels-requires-2 : tie.Need-channels-requires-2
-channels-requires-2 c κs = second (c .before)
+channels-requires-2 c κs = second c
 
 pub half-way-spec : {M : Type 1} → statement M
 half-way-spec =
@@ -82,10 +82,10 @@ half-way-spec =
     swatch-verdict-requires
     enum-known-n
     enum-told
+    channels-requires
     swatch-verdict-requires-2
     enum-known-n-2
     enum-told-2
-    channels-requires
     channels-requires-2
     rgb-half-way-requires
     returns
