@@ -1,4 +1,4 @@
-"""A separate model of the key box, from document 01: every sample is summed directly from its Bernstein weights.
+"""A separate model of the key box, from documents 01 and 02: every sample is summed directly from its Bernstein weights.
 
 Whole numbers and fractions are exact throughout; there are no differences and no remainders here.  Imported, the module
 gives the expected answers of test programs.  Run as `python3 tests/model.py`, it checks itself on document 01's samples
