@@ -16,7 +16,7 @@ use Rattle.channel.proofs.Order.{NonNegative, size-zero, range-nonneg}
 use Rattle.channel.proofs.Held.{channel-held, held-value}
 use Rattle.hsv.specs.declared.Hsv.{Hsv}
 use Rattle.hsv.specs.Hue.{six32, hueInRange, HsvInRange}
-use Rattle.hsv.specs.Channels.{wholePart, fractionalPart, rgb, row, hsvChannels}
+use Rattle.hsv.specs.Channels.{wholePart, fractionalPart, pOf, qOf, rgb, row, hsvChannels}
 use Rattle.hsv.proofs.Rounds.{
   Rounds,
   round-one,
@@ -83,17 +83,16 @@ zero-times x y p q z =
     size-zero (num r) c C
     (rounds-exact r n c C (zero-held n c e) (mul-rounds x y p q) ∙ ap (λ (k : ℕ). k * den r) e ∙ zero-mul (den r))
 
--- v × (1 - x) is v where x is 0.
-part-is-value : (v x : Float) → T (fits binary32 v) → T (inRange v) → NonNegative x → num x ≡ 0
-    → mul binary32 v (sub binary32 one32 x) ≡ v
-part-is-value v x F u p z = ap (mul binary32 v) (one-less-zero x p z) ∙ times-one v F u
+-- p is v where s is 0.
+p-is-value : (v s : Float) → T (fits binary32 v) → T (inRange v) → NonNegative s → num s ≡ 0 → pOf v s ≡ v
+p-is-value v s F u p z = ap (mul binary32 v) (one-less-zero s p z) ∙ times-one v F u
 
--- So is v × (1 - s × x) where s is 0.
-scaled-is-value : (v s x : Float) → T (fits binary32 v) → T (inRange v) → T (inRange s) → num s ≡ 0 → T (inRange x)
-    → mul binary32 v (sub binary32 one32 (mul binary32 s x)) ≡ v
-scaled-is-value v s x F u h z k =
-    part-is-value v (mul binary32 s x) F u (range-nonneg (mul binary32 s x) (mul-range s x h k))
-    (zero-times s x (range-nonneg s h) (range-nonneg x k) z)
+-- So is q, which is p with s × f for s.
+q-is-value : (v s f : Float) → T (fits binary32 v) → T (inRange v) → T (inRange s) → num s ≡ 0 → T (inRange f)
+    → qOf v s f ≡ v
+q-is-value v s f F u h z k =
+    p-is-value v (mul binary32 s f) F u (range-nonneg (mul binary32 s f) (mul-range s f h k))
+    (zero-times s f (range-nonneg s h) (range-nonneg f k) z)
 
 -- Four equal values give three.
 row-equal : (k : ℕ) (v : Float) → row k v v v v ≡ rgb v v v
@@ -113,9 +112,9 @@ saturation-zero w F h z =
     let s = w .saturation in
     let f = fractionalPart (w .hue) in
     let R = fraction-range (w .hue) (h .hue) in
-    let p = part-is-value v s F (h .value) (range-nonneg s (h .saturation)) z in
-    let q = scaled-is-value v s f F (h .value) (h .saturation) z R in
-    let r = scaled-is-value v s (sub binary32 one32 f) F (h .value) (h .saturation) z (one-less-range f R) in
+    let p = p-is-value v s F (h .value) (range-nonneg s (h .saturation)) z in
+    let q = q-is-value v s f F (h .value) (h .saturation) z R in
+    let r = q-is-value v s (sub binary32 one32 f) F (h .value) (h .saturation) z (one-less-range f R) in
     rw (p, q, r) (row-equal (wholePart (w .hue)) v)
 
 -- Minus zero is hue 0.

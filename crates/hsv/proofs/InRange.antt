@@ -18,19 +18,15 @@ use Rattle.hsv.specs.Channels.{fractionalPart, wholePart, pOf, qOf, rOf,
 use Rattle.hsv.proofs.Rounds.{mul-range, one-less-range}
 use Rattle.hsv.proofs.Hue.{hue-nonneg, fraction-range}
 
--- v × (1 - x).
-part-range : (v x : Float) → T (inRange v) → T (inRange x) → T (inRange (mul binary32 v (sub binary32 one32 x)))
-part-range v x h k = mul-range v (sub binary32 one32 x) h (one-less-range x k)
-
 -- p.
 pub p-range : (v s : Float) → T (inRange v) → T (inRange s) → T (inRange (pOf v s))
-p-range v s h k = part-range v s h k
+p-range v s h k = mul-range v (sub binary32 one32 s) h (one-less-range s k)
 
--- q.
+-- q, which is p with s × f for s.
 pub q-range : (v s f : Float) → T (inRange v) → T (inRange s) → T (inRange f) → T (inRange (qOf v s f))
-q-range v s f h k l = part-range v (mul binary32 s f) h (mul-range s f k l)
+q-range v s f h k l = p-range v (mul binary32 s f) h (mul-range s f k l)
 
--- r.
+-- r, which is q with 1 - f for f.
 pub r-range : (v s f : Float) → T (inRange v) → T (inRange s) → T (inRange f) → T (inRange (rOf v s f))
 r-range v s f h k l = q-range v s (sub binary32 one32 f) h k (one-less-range f l)
 

@@ -60,14 +60,14 @@ pub fn channels(w: Hsv) -> Rgb
     rgb(v, p, q_of(v, s, h - 5.0))
 }
 
-// The part of the value that falls as f rises.
+// q, which falls as f rises.
 fn q_of(v: f32, s: f32, f: f32) -> f32
     ensures { λ x. ⌜ x ≡ qOf v s f ⌝ }
 {
     v * (1.0 - s * f)
 }
 
-// The part of the value that rises with f.
+// r, which rises with f.
 fn r_of(v: f32, s: f32, f: f32) -> f32
     ensures { λ x. ⌜ x ≡ rOf v s f ⌝ }
 {

@@ -49,6 +49,10 @@ rgb-in-range c h =
       blue = channel-in-range (c .blue) (r .2);
     }
 
+-- A swatch with no refusal, known to be another: that one has none.
+pub accepted-as : {v w : Swatch} → v ≡ w → firstThat (swatchRefusals v) ≡ accepted → firstThat (swatchRefusals w) ≡ accepted
+accepted-as e h = subst (λ w. firstThat (swatchRefusals w) ≡ accepted) e h
+
 -- The channels of a swatch with no refusal lie from 0 to 1.
 pub swatch-in-range : (w : Swatch) → firstThat (swatchRefusals w) ≡ accepted → AllInRange (channelsOf w)
 swatch-in-range (Color c) h = rgb-in-range c h

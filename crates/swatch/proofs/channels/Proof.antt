@@ -1,9 +1,9 @@
 -- `channels` meets its contract: a grey stands for three equal channels, and a hue for those of its row.
-use mathlib.Core.Path.{_≡_, sym, ap, subst, _∙_}
+use mathlib.Core.Path.{sym, ap, _∙_}
 use borrow.Author.Needs.{needs}
-use Rattle.decide.specs.Refusal.{firstThat, accepted}
 use Rattle.hsv.proofs.InRange.{hsv-in-range}
-use Rattle.swatch.specs.Swatch.{channelsOf, swatchRefusals}
+use Rattle.swatch.specs.Swatch.{channelsOf}
+use Rattle.swatch.proofs.Range.{accepted-as}
 use Rattle.swatch.proofs.channels.Statement.{statement}
 use Rattle.swatch.proofs.channels.Tie as tie
 
@@ -18,8 +18,7 @@ enum-known-swatch-3 c = search needs
 
 channels-requires : tie.Need-channels-requires
 channels-requires c κs =
-    let h = subst (λ w. firstThat (swatchRefusals w) ≡ accepted) (c .before .swatch3 .given .1)
-    (c .before .before .before .pre) in
+    let h = accepted-as (c .before .swatch3 .given .1) (c .before .before .before .pre) in
     hsv-in-range (c .before .swatch3 .given .0 .0) h .hue
 
 returns : tie.Need-returns

@@ -20,6 +20,12 @@ in-turn : (w : Hsv) → firstThat (hsvRefusals w)
 in-turn w =
     first-append-three (hueRefusals (w .hue)) (channelRefusals (w .saturation)) (channelRefusals (w .value))
 
+-- Past an accepted hue and saturation the number is the value's.
+value-last : (w : Hsv) → firstThat (hueRefusals (w .hue)) ≡ accepted
+    → firstThat (channelRefusals (w .saturation)) ≡ accepted
+    → firstThat (hsvRefusals w) ≡ firstThat (channelRefusals (w .value))
+value-last w h s = in-turn w ∙ rw (h, s)
+
 is-accepted-requires : tie.Need-is-accepted-requires
 is-accepted-requires c κs = search needs
 
@@ -60,13 +66,10 @@ returns-2 c =
 returns-3 : tie.Need-returns-3
 returns-3 c =
     let v = c .before .before .before in
-    sym
-    (in-turn (v .before .before .before .args .w)
-    ∙ rw (
-      hue (v .before),
-      sym (v .channel-verdict .ensures) ∙ ap verdictOf (c .before .enum-told .given .1),
-      sym (c .channel-verdict2 .ensures),
-    ))
+    c .channel-verdict2 .ensures
+    ∙ sym
+    (value-last (v .before .before .before .args .w) (hue (v .before))
+    (sym (v .channel-verdict .ensures) ∙ ap verdictOf (c .before .enum-told .given .1)))
 
 pub hsv-verdict-spec : {M : Type 1} → statement M
 hsv-verdict-spec =

@@ -1,14 +1,13 @@
 -- `swatch_cell` meets its contract: a colour has its channels' cell, a grey one coordinate on the three axes, and a hue the
 -- cell of the channels that it stands for.
-use mathlib.Core.Path.{_≡_, sym, subst}
+use mathlib.Core.Path.{sym, subst}
 use borrow.Author.Needs.{needs}
-use Rattle.decide.specs.Refusal.{firstThat, accepted}
-use Rattle.swatch.specs.Swatch.{channelsOf, swatchRefusals}
+use Rattle.swatch.specs.Swatch.{channelsOf}
 use Rattle.hsv.specs.Hue.{HsvInRange}
 use Rattle.hsv.proofs.InRange.{channels-in-range, hsv-in-range}
 use Rattle.swatch.specs.declared.Swatch.the-variants.{Color, Grey}
 use Rattle.swatch.specs.ToCell.{IsCell}
-use Rattle.swatch.proofs.Range.{swatch-in-range}
+use Rattle.swatch.proofs.Range.{accepted-as, swatch-in-range}
 use Rattle.swatch.proofs.swatch_cell.Statement.{statement}
 use Rattle.swatch.proofs.swatch_cell.Tie as tie
 
@@ -24,21 +23,20 @@ enum-known-swatch-3 c = search needs
 rgb-cell-requires : tie.Need-rgb-cell-requires
 rgb-cell-requires c κs =
     let p = c .before .before .before .pre in
-    let h = subst (λ w. firstThat (swatchRefusals w) ≡ accepted) (c .before .swatch .given .1) (p .1) in
+    let h = accepted-as (c .before .swatch .given .1) (p .1) in
     (p .0, swatch-in-range (Color (c .before .swatch .given .0 .0)) h)
 
 coordinate-requires : tie.Need-coordinate-requires
 coordinate-requires c κs =
     let p = c .before .before .before .pre in
-    let h = subst (λ w. firstThat (swatchRefusals w) ≡ accepted) (c .before .swatch2 .given .1) (p .1) in
+    let h = accepted-as (c .before .swatch2 .given .1) (p .1) in
     (p .0, swatch-in-range (Grey (c .before .swatch2 .given .0 .0)) h .red)
 
 -- Past the match hue, saturation and value are in range.
 hsv : (c : tie.After-known-told3) → HsvInRange (c .before .swatch3 .given .0 .0)
 hsv c =
     hsv-in-range (c .before .swatch3 .given .0 .0)
-    (subst (λ w. firstThat (swatchRefusals w) ≡ accepted) (c .before .swatch3 .given .1)
-    (c .before .before .before .pre .1))
+    (accepted-as (c .before .swatch3 .given .1) (c .before .before .before .pre .1))
 
 channels-requires : tie.Need-channels-requires
 channels-requires c κs = hsv c .hue
