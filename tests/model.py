@@ -2,8 +2,8 @@
 
 Whole numbers and fractions are exact throughout; there are no differences and no remainders here.  Imported, the module
 gives the expected answers of test programs.  Run as `python3 tests/model.py`, it checks itself on document 01's samples
-and exits with 1 if a check fails.  Quoted words are document 01's, for demand 3 also the demand's own, and for hues
-document 02's.
+and exits with 1 if a check fails.  Quoted words are document 01's, for demand 3 also the demand's own, and for hues and
+totals document 02's.
 """
 
 import random
@@ -369,9 +369,9 @@ def read_line(line):
     return [int(part) if part else None for part in digits]
 
 
-def format_line(*numbers):
-    """A line of a sheet: each number in 5 columns, then a line feed."""
-    return b"".join(b"%5d" % number for number in numbers) + b"\n"
+def format_line(*numbers, columns=5):
+    """A line of a sheet, or of what is printed: each number in 5 columns, or in others, then a line feed."""
+    return b"".join(b"%*d" % (columns, number) for number in numbers) + b"\n"
 
 
 def sheet_lines(text):
@@ -441,6 +441,36 @@ def sheet_printed(answer):
 def sheet_output(text):
     """What the sheet program prints, from "standard input" to the listing or the one line of a refused sheet."""
     return sheet_printed(draw_sheet(text, bytes(BUFFER_LENGTH)))
+
+
+# The totals of a cube (document 02, A.2)
+
+
+def totals_line(mark, held):
+    """A line: "the mark, the count of its cells, and the sums of their x, y and z, each in 10 columns"."""
+    sums = (sum(cell[axis] for cell in held) for axis in range(3))
+    return format_line(mark, len(held), *sums, columns=10)
+
+
+def totals(side, cube):
+    """The lines "for every mark held by some cell, in rising order"; "the last line has mark 0", held or not."""
+    held = {}
+    for cell in product(range(side), repeat=3):
+        held.setdefault(cube[place(side, cell)], []).append(cell)
+    unmarked = held.pop(0, [])
+    return b"".join(totals_line(mark, held[mark]) for mark in sorted(held)) + totals_line(0, unmarked)
+
+
+def totals_printed(answer):
+    """A sheet call's answer as the totals program prints it, a refused one with "the same REFUSED line"."""
+    if answer.refusal is not None:
+        return sheet_printed(answer)
+    return totals(answer.side, answer.buffer[: answer.side**3])
+
+
+def totals_output(text):
+    """What the totals program prints, which "reads a sheet from standard input and draws it as the first does"."""
+    return totals_printed(draw_sheet(text, bytes(BUFFER_LENGTH)))
 
 
 # Demand 3, for a list of calls (side, record) and the grids before the first call and after each call
@@ -942,6 +972,7 @@ def check_sheet(checks):
         expected = b"REFUSED%5d%5d\n" % (refusal, line)
         label = f"{len(text)} bytes, {text[-80:]!r}"
         checks.equal(group, label, sheet_output(text), expected)
+        checks.equal(group, f"totals, {label}", totals_output(text), expected)
         held = bytes([5]) * 64000
         checks.equal(group, label, draw_sheet(text, held), SheetAnswer(refusal, line, None, None, held))
     answer = draw_sheet(SAMPLE_SHEET, bytes([5]) * 64000)
@@ -958,6 +989,47 @@ def check_sheet(checks):
     order = side + b"".join(format_line(mark, 1, *point * 4) for mark, point in enumerate(points, 1))
     expected = HEADING + b"    1    0    0    3\n    0    1    0    2\n    0    0    1    1\n"
     checks.equal(group, "rising byte place", sheet_output(order), expected)
+
+
+SAMPLE_TOTALS = (
+    b"         7         4         6         0         0\n"
+    b"         0        60        90        96        96\n"
+)
+
+
+def check_totals(checks):
+    """The sample sheet's totals byte for byte, marks without a cell, no unmarked cell, and the sums over all lines."""
+    group = "totals"
+    checks.equal(group, "the sample sheet", totals_output(SAMPLE_SHEET), SAMPLE_TOTALS)
+    checks.equal(group, "the empty input", totals_output(b""), b"REFUSED   41    1\n")
+    for side, only in (
+        (2, b"         0         8         4         4         4\n"),
+        (40, b"         0     64000   1248000   1248000   1248000\n"),
+        (64, b"         0    262144   8257536   8257536   8257536\n"),
+    ):
+        checks.equal(group, f"unmarked, side {side}", totals(side, bytes(side**3)), only)
+        full = b"       255" + only[10:] + b"         0" * 5 + b"\n"
+        checks.equal(group, f"255 everywhere, side {side}", totals(side, bytes([255]) * side**3), full)
+    over = SAMPLE_SHEET + format_line(200, 3, *on_axis(0, (0, 1, 2, 3))) + format_line(19, 1, *[1, 2, 3] * 4)
+    expected = (
+        b"        19         1         1         2         3\n"
+        b"       200         4         6         0         0\n"
+        b"         0        59        89        94        93\n"
+    )
+    checks.equal(group, "a mark without a cell, falling marks", totals_output(over), expected)
+    dice = random.Random(5)
+    for number in range(60):
+        side = dice.choice((2, 3, 4, 5, 8, 13, 17, 40))
+        marks = bytes(dice.randrange(256) for _ in range(dice.choice((1, 2, 3, 30, 1000))))
+        cube = bytes(dice.choice(marks) for _ in range(side**3))
+        lines = totals(side, cube).splitlines(keepends=True)
+        table = [[int(line[at : at + 10]) for at in range(0, 50, 10)] for line in lines]
+        checks.equal(group, f"cube {number}, 51 bytes a line", {*map(len, lines)}, {51})
+        checks.equal(group, f"cube {number}, marks", [mark for mark, *_ in table], [*sorted({*cube} - {0}), 0])
+        for mark, count, *_ in table:
+            checks.equal(group, f"cube {number}, count of {mark}", count, cube.count(mark))
+        sums = [sum(column) for column in zip(*table, strict=True)]
+        checks.equal(group, f"cube {number}, sums over all lines", sums[1:], [side**3, *[side**3 * (side - 1) // 2] * 3])
 
 
 def check_demand_3_can_fail(checks):
@@ -1054,6 +1126,7 @@ def self_check():
         check_half_way,
         check_hues,
         check_sheet,
+        check_totals,
         check_demand_3_can_fail,
         check_random_calls,
     ):
