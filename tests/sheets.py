@@ -299,19 +299,23 @@ def overlaps(cases):
         assert answer.buffer[:4] == bytes([count] * 4)
 
 
+def dense_strokes():
+    """200 strokes that mark about 95 cells each in a cube of side 40."""
+    for i, j in product(range(20), range(10)):
+        c, z = 39 - 2 * i, (6 * i + 4 * j) % 40
+        yield format_line(1 + 10 * i + j, 512, c, 0, z, 39, 39, 39, 39, 39, z, 0, c, z)
+
+
 def full_cubes(cases):
-    """As full as 200 strokes can make a cube: every cell of the small ones, about 95 cells a stroke in the largest."""
+    """As full as 200 strokes can make a cube: every cell of the small ones, 19000 cells of the largest."""
     for side in 2, 3:
         cells = [(k % side, k // side % side, k // side**2) for k in range(side**3)]
         strokes = (format_line(1 + k, 1, *cells[(5 * k + 3) % side**3] * 4) for k in range(CURVE_LINES))
         sheet, kind = format_line(side) + b"".join(strokes), f"a full cube of side {side}"
         answer = cases.add(sheet, None, None, side, CURVE_LINES, kind=kind)
         assert 0 not in answer.buffer[: side**3]
-    strokes = []
-    for i, j in product(range(20), range(10)):
-        c, z = 39 - 2 * i, (6 * i + 4 * j) % 40
-        strokes.append(format_line(1 + 10 * i + j, 512, c, 0, z, 39, 39, 39, 39, 39, z, 0, c, z))
-    answer = cases.add(format_line(40) + b"".join(strokes), None, None, 40, CURVE_LINES, kind="a full cube of side 40")
+    sheet = format_line(40) + b"".join(dense_strokes())
+    answer = cases.add(sheet, None, None, 40, CURVE_LINES, kind="a full cube of side 40")
     assert answer.buffer.count(0) < 40**3 - 19000
 
 
