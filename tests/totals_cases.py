@@ -1,8 +1,8 @@
 """Writes stored sheets and the totals expected of each, by the separate model of documents 01 and 02.
 
-`python3 tests/totals_cases.py` writes crates/totals_cases/stdin and stdout; with `--check` it writes nothing and exits with
-1 if they are not what it would write; with `--count` it prints how many sheets are of each kind.  A case is a heading, which
-has the sheet's length, and then the sheet; its answer is what the totals program prints for that sheet.
+`python3 tests/totals_cases.py` writes crates/totals_cases/stdin and stdout; with `--check` it writes nothing and exits
+with 1 if they are not what it would write; with `--count` it prints how many sheets are of each kind.  A case is a
+heading, which has the sheet's length, and then the sheet; its answer is what the totals program prints for that sheet.
 """
 
 import random
@@ -109,7 +109,8 @@ def single_cells(cases, dice):
         cell = [side - 1 if a == axis else 0 for a in range(3)]
         add_strokes(cases, side, [dot(7 + axis, cell), dot(100, [side - 1] * 3)])
     rising, falling = range(1, 1 + CURVE_LINES), range(255, 255 - CURVE_LINES, -1)
-    for side, marks in (6, rising), (40, rising), (6, falling), (40, falling), (9, dice.sample(range(1, 256), CURVE_LINES)):
+    shuffled = dice.sample(range(1, 256), CURVE_LINES)
+    for side, marks in (6, rising), (40, rising), (6, falling), (40, falling), (9, shuffled):
         places = dice.sample(range(side**3), CURVE_LINES)
         cells = [(place % side, place // side % side, place // side**2) for place in places]
         add_strokes(cases, side, map(dot, marks, cells))
@@ -118,7 +119,8 @@ def single_cells(cases, dice):
 def painted_over(cases):
     """Marks that later strokes leave without a cell, or with some."""
     for side in 4, 40:
-        for lines in [STROKE, CELL], [CELL, STROKE], [dot(1, (3, 3, 3)), dot(255, (3, 3, 3))], [STROKE] * 5 + [CELL] * 5:
+        one_cell = dot(1, (3, 3, 3)), dot(255, (3, 3, 3))
+        for lines in (STROKE, CELL), (CELL, STROKE), one_cell, (STROKE,) * 5 + (CELL,) * 5:
             add_strokes(cases, side, lines)
     for marks in range(1, 201), range(255, 55, -1):
         add_strokes(cases, 2, (dot(mark, (1, 0, 1)) for mark in marks))
