@@ -672,13 +672,36 @@ size_t random_sheet(uint8_t *bytes, int large) {
 
 /* Cubes */
 
-void random_cube(uint8_t *cube, size_t len) {
+/* Marks here and there, on unmarked cells or on one mark. */
+static void scattered_marks(uint8_t *cube, size_t len) {
     uint32_t marks = below((uint32_t)len / 4 + 2);
-    if (one_in(4)) {
-        random_bytes(cube, len);
-        return;
-    }
     memset(cube, one_in(8) ? (int)below(256) : 0, len);
     for (uint32_t k = 0; k < marks && len > 0; k++)
         cube[below((uint32_t)len)] = (uint8_t)below(256);
+}
+
+void random_cube(uint8_t *cube, size_t len) {
+    static const uint8_t ends[] = {0, 1, 254, 255};
+    uint32_t first = below(256);
+    switch (below(16)) {
+    case 0:
+        memset(cube, PICK(ends), len);
+        break;
+    case 1:
+        for (size_t k = 0; k < len; k++)
+            cube[k] = (uint8_t)(first + k);
+        break;
+    case 2:
+        random_bytes(cube, len);
+        for (size_t k = 0; k < len; k++)
+            cube[k] |= cube[k] == 0;
+        break;
+    case 3:
+    case 4:
+    case 5:
+        random_bytes(cube, len);
+        break;
+    default:
+        scattered_marks(cube, len);
+    }
 }

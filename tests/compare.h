@@ -106,6 +106,15 @@ void count_order(struct counts *counts, const struct order *order);
     X(SHEET_SIDE_40, "accepted sheets of side 40")                                                                     \
     X(PART_HEADING, "parts that begin with the heading")                                                               \
     X(PART_PAST, "parts that begin past the cube")                                                                     \
+    X(TOTALS_SIDE_2, "totals of side 2")                                                                               \
+    X(TOTALS_SIDE_64, "totals of side 64")                                                                             \
+    X(TOTALS_NO_MARK, "totals of unmarked cells alone")                                                                \
+    X(TOTALS_ONE_MARK, "totals of side 64 with one mark in every cell")                                                \
+    X(TOTALS_FULL, "totals of several marks and no unmarked cell")                                                     \
+    X(TOTALS_EVERY_MARK, "totals of all 256 marks, each of some cell")                                                 \
+    X(TOTALS_EXACT, "totals in a text of exactly 13056 bytes")                                                         \
+    X(TOTALS_SHORT, "22 for a text one byte short of 13056")                                                           \
+    X(TOTALS_SHEET, "totals of a sheet of two curve lines or more")                                                    \
     X(LIST_OF_THREE, "lists with three accepted calls or more")
 
 #define MET_NAME(name, words) name,

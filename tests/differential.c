@@ -289,21 +289,22 @@ static size_t sheet_buffer_length(void) {
     return one_in(2) ? lengths[below(7)] : 63999 + 2 * below(2);
 }
 
-static int sheet_case(int large, int wrong) {
+/* *want is the answer that the reference gives. */
+static int sheet_case(int large, int wrong, int64_t *want) {
     static uint8_t sheet[SHEET_ROOM];
     struct order order = {0};
-    int64_t want, got;
+    int64_t got;
     lend_bytes(&input, sheet, random_sheet(sheet, large));
     lend(&buffer, one_in(20) ? sheet_buffer_length() : 64000);
     lend(&detail, small_length(1, wrong || one_in(40)));
-    want = reference_draw_sheet(input.want, input.len, buffer.want, buffer.len, detail.want, detail.len, &order);
+    *want = reference_draw_sheet(input.want, input.len, buffer.want, buffer.len, detail.want, detail.len, &order);
     got = gidzkhalu_draw_sheet(input.got, input.len, buffer.got, buffer.len, detail.got, detail.len);
     count_order(running.counts, &order);
-    meet(SHEET_200, want == 200);
-    meet(SHEET_SIDE_40, want >= 0 && detail.want[0] == 40);
-    if (want == got && same(&input) && same(&buffer) && same(&detail))
+    meet(SHEET_200, *want == 200);
+    meet(SHEET_SIDE_40, *want >= 0 && detail.want[0] == 40);
+    if (*want == got && same(&input) && same(&buffer) && same(&detail))
         return 1;
-    print_failure(want, got);
+    print_failure(*want, got);
     printf("  draw_sheet: buffer of %zu bytes, detail of %zu bytes\n", buffer.len, detail.len);
     print_text(input.want, input.len);
     print_difference(&input);
@@ -312,8 +313,15 @@ static int sheet_case(int large, int wrong) {
     return 0;
 }
 
-static int draw_sheet(void) { return sheet_case(0, 0); }
-static int large_sheet(void) { return sheet_case(1, 0); }
+static int draw_sheet(void) {
+    int64_t answer;
+    return sheet_case(0, 0, &answer);
+}
+
+static int large_sheet(void) {
+    int64_t answer;
+    return sheet_case(1, 0, &answer);
+}
 
 /* Listings */
 
@@ -378,18 +386,28 @@ static int compare_part(uint32_t side, size_t first, size_t count, size_t text_l
     return 0;
 }
 
-static int part_case(uint32_t side) {
-    unsigned faults = random_faults(BAD_SIDE | BAD_LENGTH | BAD_RECORD);
-    size_t len, first, count, text_len;
-    int64_t bytes;
+/* The faults of a call that writes a text about a cube; BAD_RECORD stands for a short text. */
+static unsigned random_text_faults(void) { return random_faults(BAD_SIDE | BAD_LENGTH | BAD_RECORD); }
+
+/* Lends a cube of a side, or of a bad one, or of a wrong length; answers the side. */
+static uint32_t lend_cube_of(uint32_t side, unsigned faults) {
+    size_t len;
     if (faults & BAD_SIDE)
         side = bad_side();
-    len = side <= 66 ? (size_t)side * side * side : (uint32_t)(side * side * side) % 300000;
+    len = side <= 70 ? (size_t)side * side * side : (uint32_t)(side * side * side) % 300000;
     if (faults & BAD_LENGTH)
         len = one_in(4) ? below(1000) : len > 0 ? len - 1 + 2 * below(2) : 1;
     lend_cube(&cube, len);
-    first = random_first(side, len);
-    count = random_count_of_places(first, len);
+    return side;
+}
+
+static int part_case(uint32_t side) {
+    unsigned faults = random_text_faults();
+    size_t first, count, text_len;
+    int64_t bytes;
+    side = lend_cube_of(side, faults);
+    first = random_first(side, cube.len);
+    count = random_count_of_places(first, cube.len);
     text_len = random_text_length(&count, faults & BAD_RECORD);
     return compare_part(side, first, count, text_len, &bytes);
 }
@@ -419,9 +437,79 @@ static int joined_case(uint32_t side) {
 
 static int list_part(void) { return part_case(one_in(200) ? 2 + below(63) : 2 + below(8)); }
 static int parts_joined(void) { return joined_case(2 + below(6)); }
+
+static uint32_t large_side(void) { return one_in(2) ? 64 : 20 + below(45); }
+
 static int large_listing(void) {
-    uint32_t side = one_in(2) ? 64 : 20 + below(45);
+    uint32_t side = large_side();
     return one_in(2) ? part_case(side) : joined_case(side);
+}
+
+/* Totals: of a cube, 256 lines at most */
+
+enum { TOTALS_LINE = 51, TOTALS_TEXT = 256 * TOTALS_LINE };
+
+/* Of an accepted call; its lines are in text.want. */
+static void meet_totals(uint32_t side, size_t bytes) {
+    static const char none[] = "         0";
+    int full = memcmp(text.want + bytes - TOTALS_LINE + 10, none, 10) == 0;
+    size_t marks = bytes / TOTALS_LINE - 1;
+    meet(TOTALS_SIDE_2, side == 2);
+    meet(TOTALS_SIDE_64, side == 64);
+    meet(TOTALS_NO_MARK, marks == 0);
+    meet(TOTALS_ONE_MARK, marks == 1 && full && side == 64);
+    meet(TOTALS_FULL, marks > 1 && full);
+    meet(TOTALS_EVERY_MARK, marks == 255 && !full);
+    meet(TOTALS_EXACT, text.len == TOTALS_TEXT);
+}
+
+/* Compares the totals of the cube that a buffer begins with. */
+static int compare_totals(uint32_t side, const struct lent *of, size_t cube_len, size_t text_len) {
+    struct order order = {0};
+    int64_t want, got;
+    lend(&text, text_len);
+    want = reference_totals(side, of->want, cube_len, text.want, text.len, &order);
+    got = gidzkhalu_totals(side, of->got, cube_len, text.got, text.len);
+    count_order(running.counts, &order);
+    meet(TOTALS_SHORT, want == -22 && text.len + 1 == TOTALS_TEXT);
+    if (want >= 0)
+        meet_totals(side, (size_t)want);
+    if (want == got && same(of) && same(&text))
+        return 1;
+    print_failure(want, got);
+    printf("  totals: side %" PRIu32 ", text of %zu bytes\n", side, text.len);
+    print_cube(of->want, cube_len);
+    print_difference(of);
+    print_difference(&text);
+    return 0;
+}
+
+static size_t totals_text_length(int short_of) {
+    if (short_of)
+        return one_in(2) ? TOTALS_TEXT - 1 : below(TOTALS_TEXT);
+    return TOTALS_TEXT + (one_in(2) ? 0 : below(100));
+}
+
+static int totals_case(uint32_t side) {
+    unsigned faults = random_text_faults();
+    side = lend_cube_of(side, faults);
+    return compare_totals(side, &cube, cube.len, totals_text_length(faults & BAD_RECORD));
+}
+
+static int totals(void) { return totals_case(one_in(200) ? below(71) : 2 + below(8)); }
+static int large_totals(void) { return totals_case(large_side()); }
+
+/* A sheet is drawn, and the totals are those of its cube. */
+static int sheet_totals(void) {
+    int64_t curves;
+    uint32_t side;
+    if (!sheet_case(one_in(100), 0, &curves))
+        return 0;
+    if (curves < 0)
+        return 1;
+    side = detail.want[0];
+    meet(TOTALS_SHEET, curves > 1);
+    return compare_totals(side, &buffer, (size_t)side * side * side, totals_text_length(0));
 }
 
 static int refusal_line(void) {
@@ -444,6 +532,7 @@ static int refusal_line(void) {
 /* 51, 52 or 53 for each call that can have them, often with another number that applies. */
 static int wrong_length(void) {
     unsigned faults = BAD_RECORD | random_faults(ALL_FAULTS);
+    int64_t answer;
     switch (below(16)) {
     case 0:
     case 1:
@@ -454,7 +543,7 @@ static int wrong_length(void) {
     case 5:
         return half_way_case(1);
     case 6:
-        return sheet_case(0, 1);
+        return sheet_case(0, 1, &answer);
     case 7:
     case 8:
         return object_case(one_in(2) ? CHECK : DRAW, 1, 0, faults);
@@ -623,14 +712,14 @@ static int known_hues(void) {
     return good;
 }
 
-/* What the sheet program prints, by the library and by the reference. */
-static int known_print(const char *sheet, const char *printed) {
+/* What the sheet program prints, or the totals program, by the library and by the reference. */
+static int known_print(const char *sheet, int of_totals, const char *printed) {
     struct order order = {0}, listed = {0};
     int64_t want, got;
     lend_bytes(&input, (const uint8_t *)sheet, strlen(sheet));
     lend(&buffer, 64000);
     lend(&detail, 1);
-    lend(&text, 21 * 65);
+    lend(&text, TOTALS_TEXT);
     want = reference_draw_sheet(input.want, input.len, buffer.want, 64000, detail.want, 1, &order);
     got = gidzkhalu_draw_sheet(input.got, input.len, buffer.got, 64000, detail.got, 1);
     if (want != got || !same(&buffer) || !same(&detail))
@@ -638,6 +727,9 @@ static int known_print(const char *sheet, const char *printed) {
     if (want < 0) {
         want = reference_refusal_line((uint32_t)-want, detail.want[0], text.want, text.len, &listed);
         got = gidzkhalu_refusal_line((uint32_t)-got, detail.got[0], text.got, text.len);
+    } else if (of_totals) {
+        want = reference_totals(detail.want[0], buffer.want, 64, text.want, text.len, &listed);
+        got = gidzkhalu_totals(detail.got[0], buffer.got, 64, text.got, text.len);
     } else {
         want = reference_list_part(detail.want[0], buffer.want, 64, 0, 64, text.want, text.len, &listed);
         got = gidzkhalu_list_part(detail.got[0], buffer.got, 64, 0, 64, text.got, text.len);
@@ -655,9 +747,13 @@ static const char LISTING[] = "    X    Y    Z MARK\n"
                               "    1    0    0    7\n"
                               "    2    0    0    7\n"
                               "    3    0    0    7\n";
+static const char TOTALS[] = "         7         4         6         0         0\n"
+                             "         0        60        90        96        96\n";
+static const char NO_LINE[] = "REFUSED   41    1\n";
 
 static int document_samples(void) {
-    int good = known_patch() & known_print(SHEET, LISTING) & known_print("", "REFUSED   41    1\n");
+    int good = known_patch() & known_print(SHEET, 0, LISTING) & known_print("", 0, NO_LINE);
+    good &= known_print(SHEET, 1, TOTALS) & known_print("", 1, NO_LINE);
     good &= known_grey(2, 0x3F000000, 0) & known_grey(3, 0x3E800000, 0) & known_grey(3, 0x3E800001, 1) & known_hues();
     for (uint32_t side = 2; side <= 64; side++)
         good &= known_grey(side, ONE, (uint8_t)(side - 1));
@@ -674,7 +770,7 @@ static const int CHECK_ORDER[] = {51, 11, 13, 14, 15, 0}, LIST_ORDER[] = {51, 11
                  HUE_ORDER[] = {52, 11, 31, 33, 31, 32, 31, 32, 0},
                  HALF_ORDER[] = {53, 52, 31, 33, 31, 32, 31, 33, 31, 32, 0},
                  SIDE_LINE_ORDER[] = {52, 21, 41, 42, 11, 43, 0},
-                 CURVE_LINE_ORDER[] = {52, 21, 44, 41, 42, 12, 13, 14, 15, 0}, PART_ORDER[] = {11, 21, 22, 0},
+                 CURVE_LINE_ORDER[] = {52, 21, 44, 41, 42, 12, 13, 14, 15, 0}, TEXT_ORDER[] = {11, 21, 22, 0},
                  LINE_ORDER[] = {22, 0}, RECORD_ORDER[] = {51, 0}, OUT_ORDER[] = {53, 52, 0};
 
 static const struct kind {
@@ -692,15 +788,18 @@ static const struct kind {
             {"hue to cell", 4000000, hue_to_cell, {CELL_ORDER, HUE_ORDER}},
             {"half-way", 8000000, half_way, {HALF_ORDER, NULL}},
             {"sheet", 1000000, draw_sheet, {SIDE_LINE_ORDER, CURVE_LINE_ORDER}},
-            {"part of a listing", 1000000, list_part, {PART_ORDER, NULL}},
+            {"part of a listing", 1000000, list_part, {TEXT_ORDER, NULL}},
             {"parts joined", 100000, parts_joined, {NULL, NULL}},
+            {"totals", 500000, totals, {TEXT_ORDER, NULL}},
+            {"totals of a sheet", 100000, sheet_totals, {NULL, NULL}},
             {"refusal line", 1000000, refusal_line, {LINE_ORDER, NULL}},
             {"wrong lengths", 1000000, wrong_length, {RECORD_ORDER, OUT_ORDER}},
             {"list of calls", 200000, list_of_calls, {DRAW_ORDER, NULL}},
             {"large curve", 100000, large_curve, {NULL, NULL}},
             {"large patch", 3000, large_patch, {NULL, NULL}},
             {"large sheet", 5000, large_sheet, {NULL, NULL}},
-            {"large listing", 1000, large_listing, {NULL, NULL}}};
+            {"large listing", 1000, large_listing, {NULL, NULL}},
+            {"large totals", 1000, large_totals, {NULL, NULL}}};
 
 enum { KINDS = sizeof KIND / sizeof *KIND };
 

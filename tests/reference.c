@@ -598,7 +598,15 @@ int64_t reference_draw_sheet(const uint8_t *input, size_t input_len, uint8_t *bu
     return (int64_t)at - 1;
 }
 
-/* The listing */
+/* The listing, and the totals */
+
+/* The numbers of a call that writes about a cube, with the least length of its text; answers the first that applies. */
+static int cube_order(uint32_t side, size_t cube_len, size_t text_len, wide least, struct order *order) {
+    order_add(order, 11, side_outside(side));
+    order_add(order, 21, (wide)cube_len != volume(side));
+    order_add(order, 22, (wide)text_len < least);
+    return order_first(order);
+}
 
 /* A number in 5 columns, of a longer one its last five digits. */
 static void put_number(uint8_t *text, uint32_t number) {
@@ -611,10 +619,7 @@ static void put_number(uint8_t *text, uint32_t number) {
 int64_t reference_list_part(uint32_t side, const uint8_t *cube, size_t cube_len, size_t first, size_t count,
                             uint8_t *text, size_t text_len, struct order *order) {
     size_t bytes = 0;
-    order_add(order, 11, side_outside(side));
-    order_add(order, 21, (wide)cube_len != volume(side));
-    order_add(order, 22, (wide)text_len < 21 * ((wide)count + 1));
-    if (order_first(order) != 0)
+    if (cube_order(side, cube_len, text_len, 21 * ((wide)count + 1), order) != 0)
         return -order_first(order);
     if (first == 0) {
         memcpy(text, "    X    Y    Z MARK\n", 21);
@@ -630,6 +635,51 @@ int64_t reference_list_part(uint32_t side, const uint8_t *cube, size_t cube_len,
             bytes += 21;
         }
     return (int64_t)bytes;
+}
+
+/* A number in 10 columns, its first digit first: how often each power of ten goes into what is left. */
+static void put_total(uint8_t *text, uint32_t number) {
+    int begun = 0;
+    for (uint32_t power = 1000000000; power > 0; power /= 10) {
+        uint8_t digit = '0';
+        for (; number >= power; number -= power)
+            digit++;
+        begun |= digit > '0' || power == 1;
+        *text++ = begun ? digit : ' ';
+    }
+}
+
+/* The count of a mark's cells and the sums of their x, y and z, by a pass over the cube that looks for the mark. */
+static void totals_of(uint32_t side, const uint8_t *cube, size_t cube_len, int mark, uint32_t total[4]) {
+    const uint8_t *end = cube + cube_len;
+    memset(total, 0, 4 * sizeof *total);
+    for (const uint8_t *at = cube; (at = memchr(at, mark, (size_t)(end - at))) != NULL; at++) {
+        uint32_t p = (uint32_t)(at - cube);
+        total[0]++;
+        total[1] += p % side;
+        total[2] += p / side % side;
+        total[3] += p / (side * side);
+    }
+}
+
+/* Mark 0 comes after 255. */
+int64_t reference_totals(uint32_t side, const uint8_t *cube, size_t cube_len, uint8_t *text, size_t text_len,
+                         struct order *order) {
+    uint8_t *line = text;
+    if (cube_order(side, cube_len, text_len, 51 * 256, order) != 0)
+        return -order_first(order);
+    for (int k = 1; k <= 256; k++) {
+        uint32_t total[4], mark = (uint32_t)k % 256;
+        totals_of(side, cube, cube_len, (int)mark, total);
+        if (mark != 0 && total[0] == 0)
+            continue;
+        put_total(line, mark);
+        for (int at = 0; at < 4; at++)
+            put_total(line + 10 + 10 * at, total[at]);
+        line[50] = 10;
+        line += 51;
+    }
+    return line - text;
 }
 
 int64_t reference_refusal_line(uint32_t number, uint32_t line, uint8_t *text, size_t text_len, struct order *order) {

@@ -91,6 +91,9 @@ int64_t reference_draw_sheet(const uint8_t *input, size_t input_len, uint8_t *bu
 int64_t reference_list_part(uint32_t side, const uint8_t *cube, size_t cube_len, size_t first, size_t count,
                             uint8_t *text, size_t text_len, struct order *order);
 
+int64_t reference_totals(uint32_t side, const uint8_t *cube, size_t cube_len, uint8_t *text, size_t text_len,
+                         struct order *order);
+
 int64_t reference_refusal_line(uint32_t number, uint32_t line, uint8_t *text, size_t text_len, struct order *order);
 
 #endif
