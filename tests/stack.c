@@ -140,6 +140,7 @@ enum function {
     HALF_WAY,
     DRAW_SHEET,
     LIST_PART,
+    TOTALS,
     REFUSAL_LINE,
     FUNCTIONS
 };
@@ -163,6 +164,7 @@ static struct figure {
     {"half_way", {0, 53, 52, 31, 33, 32}, -1, 0, 0, {0}, 0, ""},
     {"draw_sheet", {0, 52, 21, 41, 42, 11, 43, 44, 12, 13, 14, 15}, -1, 0, 0, {0}, 0, ""},
     {"list_part", {0, 11, 21, 22}, -1, 0, 0, {0}, 0, ""},
+    {"totals", {0, 11, 21, 22}, -1, 0, 0, {0}, 0, ""},
     {"refusal_line", {0, 22}, -1, 0, 0, {0}, 0, ""},
 };
 
@@ -539,9 +541,38 @@ static void random_draw_sheet(void) {
     measure_sheet(len, one_in(32) ? below(BUFFER + 2) : BUFFER, one_in(32) ? below(3) : 1);
 }
 
-/* Listings */
+/* Listings and totals */
+
+enum { TOTALS_TEXT = 256 * 51 };
 
 static uint8_t text[21 * (CELLS + 2)];
+
+/* Each side with unmarked cells, with the least and the greatest mark, with other ends, and with all marks in turn. */
+static void chosen_cubes(void (*measure_cube)(uint32_t side, size_t len)) {
+    static const uint8_t marks[] = {0, 1, 255};
+    for (size_t s = 0; s < SIZE(SIDES); s++) {
+        size_t len = SIDES[s] > 64 ? CELLS : (size_t)SIDES[s] * SIDES[s] * SIDES[s];
+        for (size_t k = 0; k < SIZE(marks); k++) {
+            memset(grid, marks[k], CELLS);
+            measure_cube(SIDES[s], len);
+            grid[0] = (uint8_t)(255 - marks[k]);
+            grid[len > 0 ? len - 1 : 0] = (uint8_t)(255 - marks[k]);
+            measure_cube(SIDES[s], len);
+        }
+        for (size_t k = 0; k < CELLS; k++)
+            grid[k] = (uint8_t)k;
+        measure_cube(SIDES[s], len);
+    }
+}
+
+/* A cube in the grid: its length, now and then a wrong one, and its side, now and then a bad one. */
+static size_t random_cube_of(uint32_t *side) {
+    uint32_t right = one_in(16) ? 2 + below(63) : 2 + below(8);
+    size_t len = (size_t)right * right * right;
+    random_cube(grid, len);
+    *side = one_in(16) ? bad_side() : right;
+    return one_in(16) ? below((uint32_t)len + 2) : len;
+}
 
 static void measure_part(uint32_t side, size_t cube_len, size_t first, size_t count, size_t text_len) {
     struct call call = {
@@ -563,28 +594,36 @@ static void chosen_parts_of(uint32_t side, size_t len) {
         }
 }
 
-static void chosen_parts(void) {
-    static const uint8_t marks[] = {0, 1, 255};
-    for (size_t s = 0; s < SIZE(SIDES); s++) {
-        size_t len = SIDES[s] > 64 ? CELLS : (size_t)SIDES[s] * SIDES[s] * SIDES[s];
-        for (size_t k = 0; k < SIZE(marks); k++) {
-            memset(grid, marks[k], CELLS);
-            chosen_parts_of(SIDES[s], len);
-            grid[0] = (uint8_t)(255 - marks[k]);
-            grid[len > 0 ? len - 1 : 0] = (uint8_t)(255 - marks[k]);
-            chosen_parts_of(SIDES[s], len);
-        }
+static void chosen_parts(void) { chosen_cubes(chosen_parts_of); }
+
+static void random_list_part(void) {
+    uint32_t side;
+    size_t len = random_cube_of(&side), first = one_in(3) ? 0 : below((uint32_t)len + 2);
+    size_t count = one_in(3) ? len : below((uint32_t)len + 1), enough = 21 * (count + 1);
+    measure_part(side, len, first, count, one_in(8) ? below((uint32_t)enough) : enough);
+}
+
+static void measure_totals(uint32_t side, size_t cube_len, size_t text_len) {
+    struct call call = {(uint64_t)gidzkhalu_totals, {side, PLACE(grid), cube_len, PLACE(text), text_len}, {0}};
+    measure(TOTALS, gidzkhalu_totals(side, grid, cube_len, text, text_len), &call,
+            "side %" PRIu32 ", cube of %zu bytes, text of %zu bytes", side, cube_len, text_len);
+}
+
+static void chosen_totals_of(uint32_t side, size_t len) {
+    static const size_t lengths[] = {0, TOTALS_TEXT - 1, TOTALS_TEXT, TOTALS_TEXT + 1};
+    for (size_t k = 0; k < SIZE(lengths); k++) {
+        measure_totals(side, len, lengths[k]);
+        measure_totals(side, len + 1, lengths[k]);
+        measure_totals(side, 0, lengths[k]);
     }
 }
 
-static void random_list_part(void) {
-    uint32_t side = one_in(16) ? 2 + below(63) : 2 + below(8);
-    size_t len = (size_t)side * side * side, first = one_in(3) ? 0 : below((uint32_t)len + 2);
-    size_t count = one_in(3) ? len : below((uint32_t)len + 1), enough = 21 * (count + 1);
-    random_cube(grid, len);
-    if (one_in(16))
-        len = below((uint32_t)len + 2);
-    measure_part(one_in(16) ? bad_side() : side, len, first, count, one_in(8) ? below((uint32_t)enough) : enough);
+static void chosen_totals(void) { chosen_cubes(chosen_totals_of); }
+
+static void random_totals(void) {
+    uint32_t side;
+    size_t len = random_cube_of(&side);
+    measure_totals(side, len, one_in(8) ? below(TOTALS_TEXT) : TOTALS_TEXT);
 }
 
 static void measure_line(uint32_t number, uint32_t line, size_t text_len) {
@@ -612,13 +651,14 @@ static void random_refusal_line(void) {
 
 enum { RANDOM_CALLS = 5000 };
 
-static void (*const CHOSEN[FUNCTIONS])(void) = {
-    chosen_check_curves, chosen_list_curves, chosen_draw_curves, chosen_check_patches, chosen_draw_patches,
-    chosen_to_cells,     chosen_half_ways,   chosen_sheets,      chosen_parts,         chosen_lines};
+static void (*const CHOSEN[FUNCTIONS])(void) = {chosen_check_curves,  chosen_list_curves,  chosen_draw_curves,
+                                                chosen_check_patches, chosen_draw_patches, chosen_to_cells,
+                                                chosen_half_ways,     chosen_sheets,       chosen_parts,
+                                                chosen_totals,        chosen_lines};
 
 static void (*const RANDOM[FUNCTIONS])(void) = {
-    random_check_curve, random_list_curve, random_draw_curve, random_check_patch, random_draw_patch,
-    random_to_cell,     random_half_way,   random_draw_sheet, random_list_part,   random_refusal_line};
+    random_check_curve, random_list_curve, random_draw_curve, random_check_patch, random_draw_patch,  random_to_cell,
+    random_half_way,    random_draw_sheet, random_list_part,  random_totals,      random_refusal_line};
 
 static void run(void) {
     start_run(1);
