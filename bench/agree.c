@@ -7,6 +7,7 @@
 
 #include "box.h"
 #include "inputs.h"
+#include "totals.h"
 
 enum { ROOM = CELLS + 1 };
 
@@ -77,6 +78,11 @@ static answer call_list_part(const struct box *box, uint8_t *lent)
     return box->list_part(in.side, in.cube, in.cube_len, in.first, in.count, lent, in.lent_len);
 }
 
+static answer call_totals(const struct box *box, uint8_t *lent)
+{
+    return box->totals(in.side, in.cube, in.cube_len, lent, in.lent_len);
+}
+
 static answer call_refusal_line(const struct box *box, uint8_t *lent)
 {
     return box->refusal_line(in.number, in.line, lent, in.lent_len);
@@ -133,6 +139,13 @@ static void take_sheet(int set, int k)
     memcpy(in.input, sheets[set][k], SHEET_BYTES);
 }
 
+static void take_cube(uint32_t side, const uint8_t *cube)
+{
+    in.side = side;
+    in.cube_len = (size_t)side * side * side;
+    memcpy(in.cube, cube, in.cube_len);
+}
+
 static void agree_on_curve(int k)
 {
     take_curve(k);
@@ -160,13 +173,19 @@ static void agree_on_swatches(int set, size_t i, uint32_t kind)
     agree("half_way", call_half_way, 13);
 }
 
+/* Of the cube that was taken last. */
+static void agree_on_totals(void)
+{
+    in.lent_len = TOTALS_TEXT;
+    agree("totals", call_totals, TOTALS_TEXT + 1);
+}
+
 static void agree_on_sheet(int set, int k)
 {
     take_sheet(set, k);
     agree("draw_sheet", call_draw_sheet, SHEET_CELLS + 1);
-    in.side = SHEET_SIDE;
-    in.cube_len = SHEET_CELLS;
-    memcpy(in.cube, expected, SHEET_CELLS);
+    take_cube(SHEET_SIDE, expected);
+    agree_on_totals();
     in.count = 8000;
     in.lent_len = 21 * (in.count + 1);
     for (in.first = 0; in.first < SHEET_CELLS; in.first += in.count)
@@ -194,6 +213,10 @@ void agree_on_inputs(void)
     }
     for (size_t i = 0; i < swatches; i++)
         agree_on_swatches(HUES, i, 2);
+    for (int k = 0; k < CUBES; k++) {
+        take_cube(SIDE, full_cubes[k]);
+        agree_on_totals();
+    }
 }
 
 /* Random calls, good and bad. */
@@ -332,7 +355,8 @@ static void some_sheet(void)
     agree("draw_sheet", call_draw_sheet, SHEET_CELLS + 1);
 }
 
-static void some_listing(void)
+/* A cube, few to all of its cells marked. */
+static void some_cube(void)
 {
     uint32_t share = 1 + random_below(20);
     in.side = some_side();
@@ -341,10 +365,22 @@ static void some_listing(void)
         in.cube_len = 27 + random_below(2);
     for (size_t i = 0; i < in.cube_len; i++)
         in.cube[i] = random_below(20) < share ? (uint8_t)random_bits() : 0;
+}
+
+static void some_listing(void)
+{
+    some_cube();
     in.first = rarely(3) ? 0 : random_below((uint32_t)in.cube_len + 3);
     in.count = random_below(12000);
     in.lent_len = 21 * (in.count + 1) - (rarely(20) ? 1 : 0);
     agree("list_part", call_list_part, ROOM);
+}
+
+static void some_totals(void)
+{
+    some_cube();
+    in.lent_len = TOTALS_TEXT - (rarely(20) ? 1 : 0);
+    agree("totals", call_totals, TOTALS_TEXT + 1);
 }
 
 static void some_refusal_line(void)
@@ -370,6 +406,7 @@ void agree_on_random_calls(void)
     repeat(1000000, some_swatches);
     repeat(1000, some_sheet);
     repeat(2000, some_listing);
+    repeat(2000, some_totals);
     repeat(10000, some_refusal_line);
 }
 
@@ -462,6 +499,18 @@ static void wrong_sheets(int set)
     say_wrong(set == 0 ? "sheets, sparse: cells marked or left" : "sheets, dense: cells marked or left", count, of);
 }
 
+static void wrong_totals(void)
+{
+    size_t count = 0;
+    for (int k = 0; k < CUBES; k++) {
+        take_cube(SIDE, full_cubes[k]);
+        in.lent_len = TOTALS_TEXT + 1;
+        both(call_totals, in.lent_len);
+        count += wrong(TOTALS_TEXT, TOTALS_LINE);
+    }
+    say_wrong("totals, side 64: lines", count, CUBES * 256);
+}
+
 void count_wrong_cells(void)
 {
     printf("| (c) gets wrong | wrong | of |\n|---|---|---|\n");
@@ -473,4 +522,5 @@ void count_wrong_cells(void)
     wrong_swatches(HUES, 2, "hues: cells", "hues: half-way");
     wrong_sheets(0);
     wrong_sheets(1);
+    wrong_totals();
 }

@@ -6,7 +6,7 @@
 void agree_on_inputs(void);
 void agree_on_random_calls(void);
 
-/* Prints how many cells of the inputs (c) gets wrong. */
+/* Prints how many cells of the inputs (c) gets wrong, and how many lines of totals. */
 void count_wrong_cells(void);
 
 #endif

@@ -17,6 +17,7 @@
 #include "agree.h"
 #include "box.h"
 #include "inputs.h"
+#include "totals.h"
 
 enum { BOXES = 4, PLACES = 4, PARTS = 4, PART = SHEET_CELLS / PARTS, MOST = 1 << 15 };
 
@@ -155,6 +156,17 @@ static size_t draw_and_list_sheets(const struct box *box, int set)
     return SHEETS;
 }
 
+/* The cubes of the sheets; set 2 those of side 64. */
+static size_t total_cubes(const struct box *box, int set)
+{
+    for (int k = 0; k < (set < 2 ? SHEETS : CUBES); k++)
+        if (set < 2)
+            total += box->totals(SHEET_SIDE, cubes[set][k], SHEET_CELLS, text, TOTALS_TEXT + 1);
+        else
+            total += box->totals(SIDE, full_cubes[k], CELLS, text, TOTALS_TEXT + 1);
+    return set < 2 ? SHEETS : CUBES;
+}
+
 static const struct row {
     const char *name, *unit, *functions;
     size_t (*run)(const struct box *box, int set);
@@ -184,6 +196,9 @@ static const struct row {
     {"sheet of 200 lines to listing, dense", "sheet", "draw_sheet list_part", draw_and_list_sheets, 1, 4},
     {"of it the drawing", "sheet", "draw_sheet", draw_sheets, 1, 4},
     {"of it the listing", "sheet", "list_part", list_sheets, 1, 4},
+    {"totals of a cube, side 40, sparse", "cube", "totals", total_cubes, 0, 4},
+    {"totals of a cube, side 40, dense", "cube", "totals", total_cubes, 1, 4},
+    {"totals of a cube, side 64, any bytes", "cube", "totals", total_cubes, 2, 4},
 };
 
 enum { ROWS = sizeof rows / sizeof *rows };

@@ -24,6 +24,7 @@ typedef answer draw_sheet_fn(const uint8_t *input, size_t input_len, uint8_t *bu
                              uint8_t *detail, size_t detail_len);
 typedef answer list_part_fn(uint32_t side, const uint8_t *cube, size_t cube_len, size_t first, size_t count,
                             uint8_t *text, size_t text_len);
+typedef answer totals_fn(uint32_t side, const uint8_t *cube, size_t cube_len, uint8_t *text, size_t text_len);
 typedef answer refusal_line_fn(uint32_t number, uint32_t line, uint8_t *text, size_t text_len);
 
 struct box {
@@ -37,6 +38,7 @@ struct box {
     half_way_fn *half_way;
     draw_sheet_fn *draw_sheet;
     list_part_fn *list_part;
+    totals_fn *totals;
     refusal_line_fn *refusal_line;
 };
 
@@ -50,13 +52,14 @@ struct box {
     half_way_fn prefix##_half_way;         \
     draw_sheet_fn prefix##_draw_sheet;     \
     list_part_fn prefix##_list_part;       \
+    totals_fn prefix##_totals;             \
     refusal_line_fn prefix##_refusal_line
 
 #define BOX(prefix)                                                                                           \
     {                                                                                                         \
         #prefix, prefix##_check_curve, prefix##_list_curve, prefix##_draw_curve, prefix##_check_patch,        \
             prefix##_draw_patch, prefix##_to_cell, prefix##_half_way, prefix##_draw_sheet, prefix##_list_part, \
-            prefix##_refusal_line                                                                             \
+            prefix##_totals, prefix##_refusal_line                                                            \
     }
 
 DECLARE_BOX(gidzkhalu);

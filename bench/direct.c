@@ -5,6 +5,8 @@
 #include <stdint.h>
 #include <stdlib.h>
 
+#include "totals.h"
+
 /* n³ times the value at i / n. */
 static inline int64_t blend(int64_t n, int64_t i, int64_t g0, int64_t g1, int64_t g2, int64_t g3)
 {
@@ -175,6 +177,27 @@ static inline uint8_t coordinate(uint32_t side, float v)
 static inline float mix(float a, float b)
 {
     return (a + b) * 0.5f;
+}
+
+/* Totals: a table for each number, and the coordinates of every place by division. */
+static uint8_t *put_totals(uint32_t side, const uint8_t *cube, uint8_t *text)
+{
+    uint32_t counts[256] = {0}, x[256] = {0}, y[256] = {0}, z[256] = {0};
+    for (uint32_t p = 0; p < side * side * side; p++) {
+        uint8_t mark = cube[p];
+        counts[mark]++;
+        x[mark] += p % side;
+        y[mark] += p / side % side;
+        z[mark] += p / (side * side);
+    }
+    for (uint32_t k = 1; k <= 256; k++) {
+        uint32_t mark = k % 256; /* 0 comes last */
+        if (counts[mark] == 0 && mark != 0)
+            continue;
+        put_totals_line(mark, counts[mark], x[mark], y[mark], z[mark], text);
+        text += TOTALS_LINE;
+    }
+    return text;
 }
 
 #define CALL(name) direct_##name

@@ -6,6 +6,7 @@
 #include <string.h>
 
 uint8_t curves[CURVES][12], patches[2][PATCHES][48], sheets[2][SHEETS][SHEET_BYTES];
+uint8_t full_cubes[CUBES][CELLS];
 float (*channels[3])[6];
 size_t swatches;
 
@@ -124,4 +125,7 @@ void make_inputs(size_t swatch_count)
             random_sheet(sheets[set][k], set);
     }
     make_channels(HUES);
+    for (int k = 0; k < CUBES; k++)
+        for (int i = 0; i < CELLS; i++)
+            full_cubes[k][i] = (uint8_t)random_bits();
 }

@@ -15,7 +15,8 @@ enum {
     SHEET_CELLS = 64000,
     SHEET_LINES = 200,
     SHEET_BYTES = 6 + 71 * SHEET_LINES,
-    SHEETS = 8
+    SHEETS = 8,
+    CUBES = 4
 };
 
 /* Accepted curves, side 64, 512 steps. */
@@ -33,6 +34,9 @@ extern size_t swatches;
 
 /* Accepted sheets of 200 curve lines, side 40: set 0 short strokes, set 1 long ones. */
 extern uint8_t sheets[2][SHEETS][SHEET_BYTES];
+
+/* Cubes of side 64 that hold any bytes. */
+extern uint8_t full_cubes[CUBES][CELLS];
 
 void make_inputs(size_t swatch_count);
 

@@ -57,6 +57,16 @@ static inline int order_of_drawing(uint32_t side, const uint8_t *points, size_t 
     return order_of_list(side, points, len, count_out, false);
 }
 
+/* 11, 21, 22 of a text about a cube; 0 if none applies. */
+static inline int order_of_text(uint32_t side, size_t cube_len, bool text_short)
+{
+    if (!is_side(side))
+        return 11;
+    if (cube_len != (size_t)side * side * side)
+        return 21;
+    return text_short ? 22 : 0;
+}
+
 static inline bool is_curve_list_short(uint32_t steps, size_t list_len)
 {
     return list_len < 3 * ((size_t)steps + 1);

@@ -6,6 +6,8 @@
 #include <stdint.h>
 #include <string.h>
 
+#include "totals.h"
+
 #if defined(__GNUC__)
 #define RARE(test) __builtin_expect(test, 0)
 #define APART __attribute__((noinline)) /* a loop of its own keeps its numbers in registers */
@@ -287,6 +289,43 @@ static inline uint8_t coordinate(uint32_t side, float v)
 static inline float mix(float a, float b)
 {
     return (a + b) * 0.5f;
+}
+
+/* Totals. */
+
+/* The count of a mark's cells and the sums of their coordinates. */
+struct total {
+    uint32_t count, x, y, z;
+};
+
+/* One pass, with the coordinates counted along. */
+static void add_cells(uint32_t side, const uint8_t *cube, struct total totals[256])
+{
+    for (uint32_t z = 0; z < side; z++)
+        for (uint32_t y = 0; y < side; y++)
+            for (uint32_t x = 0; x < side; x++) {
+                struct total *t = &totals[*cube++];
+                t->count++;
+                t->x += x;
+                t->y += y;
+                t->z += z;
+            }
+}
+
+static inline uint8_t *put_total(uint32_t mark, const struct total *t, uint8_t *text)
+{
+    put_totals_line(mark, t->count, t->x, t->y, t->z, text);
+    return text + TOTALS_LINE;
+}
+
+static uint8_t *put_totals(uint32_t side, const uint8_t *cube, uint8_t *text)
+{
+    struct total totals[256] = {{0}};
+    add_cells(side, cube, totals);
+    for (uint32_t mark = 1; mark < 256; mark++)
+        if (totals[mark].count > 0)
+            text = put_total(mark, &totals[mark], text);
+    return put_total(0, &totals[0], text);
 }
 
 #define CALL(name) same_##name

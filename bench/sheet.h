@@ -1,10 +1,12 @@
-/* Stroke sheets, read, judged and listed, for (a) and (b). The file that includes this one has calls.h before it, and
-   what that asks for. */
+/* Stroke sheets, read, judged and listed, and totals, for (a) and (b). The file that includes this one has calls.h
+   before it, and what that asks for, and defines put_totals, which writes the lines of a cube's totals and answers the
+   byte after them. */
 #ifndef SHEET_H
 #define SHEET_H
 
 #include "box.h"
 #include "order.h"
+#include "totals.h"
 
 #include <string.h>
 
@@ -195,12 +197,9 @@ answer CALL(list_part)(uint32_t side, const uint8_t *cube, size_t cube_len, size
                        size_t text_len)
 {
     static const char heading[] = "    X    Y    Z MARK\n";
-    if (!is_side(side))
-        return -11;
-    if (cube_len != (size_t)side * side * side)
-        return -21;
-    if (text_len / 21 <= count)
-        return -22;
+    int refusal = order_of_text(side, cube_len, text_len / 21 <= count);
+    if (refusal != 0)
+        return -refusal;
     size_t left = first < cube_len ? cube_len - first : 0;
     uint8_t *at = text;
     if (first == 0) {
@@ -210,13 +209,12 @@ answer CALL(list_part)(uint32_t side, const uint8_t *cube, size_t cube_len, size
     return (answer)(put_cells(side, cube, first, count < left ? count : left, at) - text);
 }
 
-/* A number in five columns; of a larger one the last five digits. */
-static inline void put_number(uint32_t v, uint8_t *text)
+answer CALL(totals)(uint32_t side, const uint8_t *cube, size_t cube_len, uint8_t *text, size_t text_len)
 {
-    for (int i = 4; i >= 0; i--) {
-        text[i] = (uint8_t)(v == 0 && i < 4 ? ' ' : '0' + v % 10);
-        v /= 10;
-    }
+    int refusal = order_of_text(side, cube_len, text_len < TOTALS_TEXT);
+    if (refusal != 0)
+        return -refusal;
+    return (answer)(put_totals(side, cube, text) - text);
 }
 
 answer CALL(refusal_line)(uint32_t number, uint32_t line, uint8_t *text, size_t text_len)
@@ -224,8 +222,8 @@ answer CALL(refusal_line)(uint32_t number, uint32_t line, uint8_t *text, size_t 
     if (text_len < 18)
         return -22;
     memcpy(text, "REFUSED", 7);
-    put_number(number, text + 7);
-    put_number(line, text + 12);
+    put_number(number, 5, text + 7);
+    put_number(line, 5, text + 12);
     text[17] = '\n';
     return 18;
 }

@@ -1,6 +1,6 @@
 /* (c) What is usually written instead: float evaluation of the Bernstein form and rounding, no step test; sscanf and
-   sprintf for sheets. Lengths, sides, counts and marks are tried, so that no write goes astray; which number refuses a
-   swatch or a sheet is left rough. */
+   sprintf for sheets and totals. Lengths, sides, counts and marks are tried, so that no write goes astray; which number
+   refuses a swatch, a sheet or a cube is left rough. */
 #include <math.h>
 #include <stdbool.h>
 #include <stddef.h>
@@ -174,6 +174,32 @@ answer usual_list_part(uint32_t side, const uint8_t *cube, size_t cube_len, size
         if (cube[p] != 0)
             at += sprintf(at, "%5u%5u%5u%5u\n", (unsigned)(p % side), (unsigned)(p / side % side),
                           (unsigned)(p / side / side), (unsigned)cube[p]);
+    return (answer)(at - (char *)text);
+}
+
+answer usual_totals(uint32_t side, const uint8_t *cube, size_t cube_len, uint8_t *text, size_t text_len)
+{
+    struct {
+        unsigned count, x, y, z;
+    } totals[256] = {{0}};
+    char *at = (char *)text;
+    if (order_of_text(side, cube_len, text_len < 256 * 51 + 1) != 0)
+        return -22;
+    for (unsigned z = 0; z < side; z++)
+        for (unsigned y = 0; y < side; y++)
+            for (unsigned x = 0; x < side; x++) {
+                unsigned mark = cube[x + side * (y + side * z)];
+                totals[mark].count++;
+                totals[mark].x += x;
+                totals[mark].y += y;
+                totals[mark].z += z;
+            }
+    for (unsigned k = 1; k <= 256; k++) {
+        unsigned mark = k % 256;
+        if (totals[mark].count > 0 || mark == 0)
+            at += snprintf(at, 52, "%10u%10u%10u%10u%10u\n", mark, totals[mark].count, totals[mark].x, totals[mark].y,
+                           totals[mark].z);
+    }
     return (answer)(at - (char *)text);
 }
 
