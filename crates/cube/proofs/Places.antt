@@ -1,11 +1,18 @@
 -- Places of cells: each cell of a cube stands at a byte of its grid, and different cells at different bytes. The
 -- three coordinates are the place's digits to the base S.
-use mathlib.Core.Path.{_≡_, sym}
-use Prim.Native.Nat.{ℕ, _+_, _*_, _≤_, _<_}
+use mathlib.Core.Path.{_≡_, sym, _∙_}
+use Prim.Native.Nat.{ℕ, zero, suc, _+_, _*_, _/_, _%_, _≤_, _<_}
 use native.Mathlib.Nat.{le-of-lt, lt-of-le-of-lt, mul-le-mul, mul-le-mul-left, mul-le-mul-right}
-use native.Mathlib.Nat.{mul-lt-mul-of-pos-left, mul-pos}
+use native.Mathlib.Nat.{mul-lt-mul-of-pos-left, mul-pos, mod-lt, mod-eq-of-lt, div-eq-of-lt, mod-add-div}
+use native.Mathlib.Nat.{add-mul-mod-self-left, add-mul-div-left, div-div-eq-div-mul}
 use native.Mathlib.Omega.{arith}
-use Rattle.cube.specs.Cube.{Axis, x-axis, y-axis, z-axis, Cell, Inside, volume, place}
+use Rattle.cube.specs.Cube.{Axis, x-axis, y-axis, z-axis, Cell, Inside, volume, place, cellAt}
+
+-- What holds on x, y and z holds on every axis.
+pub by-axis : (P : Axis → Type 0) → P x-axis → P y-axis → P z-axis → (a : Axis) → P a
+by-axis P x y z x-axis = x
+by-axis P x y z y-axis = y
+by-axis P x y z z-axis = z
 
 -- A digit a to the base S, and p above it.
 digit-below : {S a p q : ℕ} → a < S → p < q → a + S * p < S * q
@@ -41,12 +48,54 @@ place-injective S c d h k e a =
     rw (digits S c, digits S d) at e in
     let x = digit-same S (c x-axis) (d x-axis) _ _ (h x-axis) (k x-axis) e′ in
     let yz = digit-same S (c y-axis) (d y-axis) _ _ (h y-axis) (k y-axis) (x .1) in
-    pick (x .0) (yz .0) (yz .1) a
+    by-axis (λ b. c b ≡ d b) (x .0) (yz .0) (yz .1) a
+
+-- The digits of the byte x + S × y + S × S × z.
+module _ (S p x y z : ℕ) (x-in : x < S) (y-in : y < S) (at : p ≡ x + S * (y + S * z)) where
+  pub x-of : p % S ≡ x
+  x-of = rw (at, add-mul-mod-self-left) (mod-eq-of-lt x-in)
+
+  rest-of : p / S ≡ y + S * z
+  rest-of = let more : 0 < S = omega arith in rw (at, add-mul-div-left x (y + S * z) more, div-eq-of-lt x-in) (omega arith)
+
+  pub y-of : p / S % S ≡ y
+  y-of = rw (rest-of, add-mul-mod-self-left) (mod-eq-of-lt y-in)
+
+  pub z-of : p / (S * S) ≡ z
+  z-of =
+      let more : 0 < S = omega arith in
+      rw (← div-div-eq-div-mul, rest-of, add-mul-div-left y z more, div-eq-of-lt y-in) (omega arith)
+
+-- Every byte has coordinates.
+pub coordinates-of : (S p : ℕ) → p ≡ p % S + S * (p / S % S + S * (p / S / S))
+coordinates-of S p = rw (mod-add-div (p / S) S, mod-add-div p S)
+
+-- In a cube z is below the side.
+pub z-below : (S p x y z : ℕ) → p ≡ x + S * (y + S * z) → p < S * S * S → z < S
+z-below S p x y z at inside = let g : ¬ (S ≤ z) = λ h. omega (arith, mul-le-mul-left (S * S) h) in omega arith
+
+-- A cell stands at its place, and at a place stands its cell.
+pub cell-at-place : (S : ℕ) (c : Cell) → Inside S c → (a : Axis) → cellAt S (place S c) a ≡ c a
+cell-at-place S c h a =
+    let p = place S c in
+    let at : p ≡ c x-axis + S * (c y-axis + S * c z-axis) = digits S c in
+    by-axis (λ b. cellAt S p b ≡ c b) (x-of S p _ _ (c z-axis) (h x-axis) (h y-axis) at)
+    (y-of S p _ _ (c z-axis) (h x-axis) (h y-axis) at) (z-of S p _ _ (c z-axis) (h x-axis) (h y-axis) at) a
+
+pub place-of-cell : (S p : ℕ) → place S (cellAt S p) ≡ p
+place-of-cell S p =
+    digits S (cellAt S p) ∙ rw (← div-div-eq-div-mul p S S) (sym (coordinates-of S p))
+
+-- The cell at a byte of the grid is a cell of the cube.
+pub cell-at-inside : (S p : ℕ) → p < volume S → Inside S (cellAt S p)
+cell-at-inside S p h a =
+    let side : 0 < S = positive S h in
+    by-axis (λ b. cellAt S p b < S) (mod-lt p side) (mod-lt (p / S) side)
+    (rw (← div-div-eq-div-mul p S S) (z-below S p (p % S) (p / S % S) (p / S / S) (coordinates-of S p) h)) a
   where
-    pick : c x-axis ≡ d x-axis → c y-axis ≡ d y-axis → c z-axis ≡ d z-axis → (a : Axis) → c a ≡ d a
-    pick x y z x-axis = x
-    pick x y z y-axis = y
-    pick x y z z-axis = z
+    positive : (S : ℕ) → p < volume S → 0 < S
+    positive zero l = absurd (omega arith)
+    positive (suc R) l = omega arith
 
 volume-grows : (S R : ℕ) → S < R → volume S < volume R
 volume-grows S R h =

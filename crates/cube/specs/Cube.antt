@@ -1,6 +1,6 @@
 -- Document 01, "The colour cube": sides, cells and their byte places.
 use mathlib.Core.Bool.{Bool, _||_}
-use Prim.Native.Nat.{ℕ, _+_, _*_, _<_}
+use Prim.Native.Nat.{ℕ, _+_, _*_, _/_, _%_, _<_}
 use lib.Dec.{ltb}
 
 -- The three axes. Laws are stated over the axis, once.
@@ -30,3 +30,9 @@ volume S = S * S * S
 -- The byte at which a cell stands: x + S × y + S × S × z.
 unfoldable pub place : (S : ℕ) (c : Cell) → ℕ
 place S c = c x-axis + S * c y-axis + S * S * c z-axis
+
+-- The cell that stands at byte p.
+abbrev pub cellAt : (S p : ℕ) → Cell
+cellAt S p x-axis = p % S
+cellAt S p y-axis = p / S % S
+cellAt S p z-axis = p / (S * S)

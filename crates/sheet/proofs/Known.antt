@@ -10,7 +10,7 @@ use Rattle.drawing.specs.Object.{offset, coordinate, exact, cellOf}
 use Rattle.drawing.specs.Refusals.{countOut, coordinateOut, stepsTooLong, order, drawVerdict}
 use Rattle.drawing.specs.Drawing.{row, rows, samples, marked, cells, drawn, inTurn}
 use Rattle.sheet.specs.Field.{isDigit, areDigits, afterBlanks, isNumber, digitsOf, isBad, decimal, valueOf, inColumns}
-use Rattle.sheet.specs.Line.{before, lines, isWrong, someBad, asLine}
+use Rattle.sheet.specs.Line.{before, lines, isWrong, someBad, inLine}
 use Rattle.sheet.specs.Sheet.{sideOrder, markOut, curveOrder, judgeCurves, judgeLines, judge}
 use Rattle.sheet.specs.Printed.{cubeOf, cellLine, cellLines, listing, refusalLine, output}
 use Rattle.sheet.specs.Known.{times, known, sameBytes, allPrint}
@@ -19,6 +19,6 @@ pub known-print : T (allPrint known)
 unfolding blend scale points value someBelow someOf firstThat withinHalf towards move walk cell farApart someSample tooLong
     someAxis sideOut place offset coordinate exact cellOf countOut coordinateOut stepsTooLong order drawVerdict row rows
     samples marked cells drawn isDigit areDigits afterBlanks isNumber digitsOf isBad decimal valueOf inColumns
-    before lines isWrong someBad asLine sideOrder markOut curveOrder judgeCurves judgeLines judge inTurn cubeOf cellLine
+    before lines isWrong someBad inLine sideOrder markOut curveOrder judgeCurves judgeLines judge inTurn cubeOf cellLine
     cellLines listing refusalLine output times sameBytes allPrint
 known-print = tt

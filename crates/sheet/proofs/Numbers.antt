@@ -115,18 +115,32 @@ is-number b [] z d = both (isDigit b) true .0 d .0
 is-number b (c ∷ bs) z d =
     both (not (eqb b 48)) (areDigits (b ∷ c ∷ bs)) .1 (subst (λ x. T (not x)) (sym z) tt, d)
 
--- The digits of a number above 0 as written.
-digits-of : (v : ℕ) (r : Written 5 v) → digitsOf (columns v) ≡ r .first ∷ r .others
-unfolding digitsOf afterBlanks
-digits-of v r =
-    let after : afterBlanks (columns v) ≡ r .first ∷ r .others =
+-- What follows the blanks of a number above 0 as written.
+after-of : {w v : ℕ} (r : Written w v) → afterBlanks (inColumns w v) ≡ r .first ∷ r .others
+unfolding afterBlanks
+after-of r =
     ap afterBlanks (r .is) ∙ after-replicate (r .blanks) (r .first ∷ r .others) ∙
     ap (λ b. cond b (afterBlanks (r .others)) (r .first ∷ r .others)) (r .not-blank)
-    in
+
+number-of : {w v : ℕ} (r : Written w v) → T (isNumber (r .first ∷ r .others))
+number-of r = is-number (r .first) (r .others) (r .not-zero) (r .digits)
+
+-- In columns that hold it a number is whole: what follows the blanks is a number, and stands for it.
+pub columns-hold : (w v : ℕ) → v < 10 ^ suc w →
+    T (isNumber (afterBlanks (inColumns (suc w) v))) × (decimal 0 (afterBlanks (inColumns (suc w) v)) ≡ v)
+unfolding inColumns afterBlanks isNumber isDigit decimal
+columns-hold w zero q =
+    rw (after-replicate w (48 ∷ [])) (tt, refl)
+columns-hold w (suc v) q =
+    let r = written (suc w) (suc v) (omega arith) q in rw (after-of r) (number-of r, r .value)
+
+-- The digits of a number above 0 as written.
+digits-of : (v : ℕ) (r : Written 5 v) → digitsOf (columns v) ≡ r .first ∷ r .others
+unfolding digitsOf
+digits-of v r =
     ap (λ l. cond (eqb l 5 && isNumber (afterBlanks (columns v))) (afterBlanks (columns v)) []) (length-inColumns 5 v) ∙
-    ap (λ a. cond (isNumber a) a []) after ∙
-    ap (λ b. cond b (r .first ∷ r .others) [])
-    (true-of (isNumber (r .first ∷ r .others)) (is-number (r .first) (r .others) (r .not-zero) (r .digits)))
+    ap (λ a. cond (isNumber a) a []) (after-of r) ∙
+    ap (λ b. cond b (r .first ∷ r .others) []) (true-of (isNumber (r .first ∷ r .others)) (number-of r))
 
 above-zero : (v : ℕ) → Written 5 v → (isBad (columns v) ≡ false) × (valueOf (columns v) ≡ v)
 unfolding isBad valueOf

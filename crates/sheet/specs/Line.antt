@@ -6,7 +6,7 @@ use Prim.Native.Nat.{ℕ, _+_, _*_}
 use lib.Dec.{eqb}
 use lib.ListN.{length, getD, take, drop}
 use Rattle.decide.specs.Some.{someBelow}
-use Rattle.sheet.specs.Field.{isBad, valueOf, columns}
+use Rattle.sheet.specs.Field.{isBad, valueOf, inColumns}
 
 -- A byte before the lines that follow it: a line feed is a line of its own, any other byte begins the next line.
 unfoldable pub before : (b : ℕ) (lines : List (List ℕ)) → List (List ℕ)
@@ -34,7 +34,11 @@ number line k = valueOf (field line k)
 unfoldable pub someBad : (fields : ℕ) (line : List ℕ) → Bool
 someBad fields line = someBelow fields (λ k. isBad (field line k))
 
--- Numbers as a line: each in 5 columns, and a line feed.
-unfoldable pub asLine : List ℕ → List ℕ
-asLine [] = 10 ∷ []
-asLine (v ∷ vs) = columns v ++ asLine vs
+-- Numbers as a line: each in as many columns as asked, and a line feed.
+unfoldable pub inLine : (width : ℕ) → List ℕ → List ℕ
+inLine width [] = 10 ∷ []
+inLine width (v ∷ vs) = inColumns width v ++ inLine width vs
+
+-- A line of a sheet or of a listing: 5 columns.
+abbrev pub asLine : List ℕ → List ℕ
+asLine vs = inLine 5 vs

@@ -1,14 +1,14 @@
 -- The lines of a row are those of its bytes: along a row x rises with the byte, and y and z stay.
 use mathlib.Core.Path.{_≡_, refl, sym}
 use mathlib.Core.List.{List, [], _∷_, _++_, append-assoc, append-nil}
-use Prim.Native.Nat.{ℕ, suc, _+_, _*_, _/_, _%_, _≤_, _<_}
-use native.Mathlib.Nat.{add-zero, add-suc, suc-add, mod-eq-of-lt, div-eq-of-lt, add-mul-mod-self-left, add-mul-div-left, div-div-eq-div-mul}
-use native.Mathlib.Nat.{mod-add-div, mul-le-mul-left}
+use Prim.Native.Nat.{ℕ, suc, _+_, _*_, _≤_, _<_}
+use native.Mathlib.Nat.{add-zero, add-suc, suc-add}
 use native.Mathlib.Omega.{arith}
 use lib.Dec.{eqb}
 use lib.ListN.{length, getD, take}
 use lib.Seq.{take-suc, length-take-le}
 use Rattle.decide.proofs.Truth.{false-of, equal}
+use Rattle.cube.proofs.Places.{x-of, y-of, z-of}
 use Rattle.sheet.specs.Line.{asLine}
 use Rattle.sheet.specs.Printed.{cellLine, cellLines}
 use Rattle.sheet_listing.specs.Row.{lineOf, rowLines}
@@ -37,25 +37,10 @@ pub row-next : (x y z i : ℕ) (marks : List ℕ) → i < length marks →
 row-next x y z i marks l =
     rw (take-suc marks i 0 l, row-more, length-take-le i marks (omega arith))
 
--- The coordinates of the byte x + S × y + S × S × z.
-module _ (S p x y z : ℕ) (x-in : x < S) (y-in : y < S) (at : p ≡ x + S * (y + S * z)) where
-  x-of : p % S ≡ x
-  x-of = rw (at, add-mul-mod-self-left) (mod-eq-of-lt x-in)
-
-  rest-of : p / S ≡ y + S * z
-  rest-of = let more : 0 < S = omega arith in rw (at, add-mul-div-left x (y + S * z) more, div-eq-of-lt x-in) (omega arith)
-
-  y-of : p / S % S ≡ y
-  y-of = rw (rest-of, add-mul-mod-self-left) (mod-eq-of-lt y-in)
-
-  z-of : p / (S * S) ≡ z
-  z-of =
-      let more : 0 < S = omega arith in
-      rw (← div-div-eq-div-mul, rest-of, add-mul-div-left y z more, div-eq-of-lt y-in) (omega arith)
-
-  cell-line : (mark : ℕ) → cellLine S p mark ≡ lineOf x y z mark
-  unfolding cellLine lineOf
-  cell-line mark = rw (x-of, y-of, z-of)
+cell-line : (S p x y z : ℕ) → x < S → y < S → p ≡ x + S * (y + S * z) → (mark : ℕ) → cellLine S p mark ≡ lineOf x y z mark
+unfolding cellLine lineOf
+cell-line S p x y z x-in y-in at mark =
+    rw (x-of S p x y z x-in y-in at, y-of S p x y z x-in y-in at, z-of S p x y z x-in y-in at)
 
 -- The lines of cells of one row.
 pub row-cells : (S p x y z : ℕ) (marks : List ℕ) → x + length marks ≤ S → y < S → p ≡ x + S * (y + S * z) →
@@ -64,11 +49,3 @@ unfolding cellLines rowLines
 row-cells S p x y z [] x-in y-in at = refl
 row-cells S p x y z (mark ∷ marks) x-in y-in at =
     rw (cell-line S p x y z (omega arith) y-in at mark, row-cells S (suc p) (suc x) y z marks (omega arith) y-in (omega arith))
-
--- Every byte has coordinates.
-pub coordinates-of : (S p : ℕ) → p ≡ p % S + S * (p / S % S + S * (p / S / S))
-coordinates-of S p = rw (mod-add-div (p / S) S, mod-add-div p S)
-
--- In a cube z is below the side.
-pub z-below : (S p x y z : ℕ) → p ≡ x + S * (y + S * z) → p < S * S * S → z < S
-z-below S p x y z at inside = let g : ¬ (S ≤ z) = λ h. omega (arith, mul-le-mul-left (S * S) h) in omega arith

@@ -7,7 +7,7 @@ use native.Mathlib.Omega.{arith}
 use lib.ListN.{length, set}
 use denote.Ref.{now}
 use Rattle.decide.specs.Refusal.{firstThat}
-use Rattle.sheet.specs.Line.{asLine}
+use Rattle.sheet.specs.Line.{inLine}
 use Rattle.sheet.specs.Printed.{refusalLine}
 use Rattle.sheet.specs.Part.{lineOrder}
 use Rattle.sheet.proofs.Printed.{length-refusalLine}
@@ -45,7 +45,7 @@ start c = c .before .before .before .before .before .before .before .before .bef
 line : (c : tie.After-slice-known4) →
     let a = start c .args in
     Puts (refusalLine (a .number) (a .line)) 0 (now (a .text)) (set (c .before .before .put-number2 .last .1 .0) 17 10) 18
-unfolding refusalLine asLine
+unfolding refusalLine inLine
 line c =
     let n = c .before .before .before .before .before .before in
     puts-append (puts-next (n .before .before .before .before .put-bytes .ensures) refl)

@@ -2,7 +2,7 @@
 use borrow.Author.Needs.{needs}
 use native.Mathlib.Nat.{add-assoc}
 use native.Mathlib.Omega.{arith}
-use Rattle.sheet.specs.Line.{asLine}
+use Rattle.sheet.specs.Line.{inLine}
 use Rattle.sheet_listing.proofs.Puts.{puts-byte, puts-append, puts-length}
 use Rattle.sheet_listing.proofs.cells.put_cell.Statement.{statement}
 use Rattle.sheet_listing.proofs.cells.put_cell.Tie as tie
@@ -47,7 +47,7 @@ slice-write-text : tie.Need-slice-write-text
 slice-write-text c = search needs
 
 returns : tie.Need-returns
-unfolding asLine
+unfolding inLine
 returns c =
     let m = c .before .before in
     let z = m .before .before .before .before .before in

@@ -15,7 +15,8 @@ use Rattle.sheet.proofs.Parts.{cells-append, length-cells-at-most}
 use Rattle.sheet_listing.specs.Puts.{Puts}
 use Rattle.sheet_listing.specs.Row.{rowLines}
 use Rattle.sheet_listing.proofs.Puts.{puts-none, puts-append, puts-length}
-use Rattle.sheet_listing.proofs.Rows.{row-cells, coordinates-of, z-below}
+use Rattle.cube.proofs.Places.{coordinates-of, z-below}
+use Rattle.sheet_listing.proofs.Rows.{row-cells}
 use Rattle.sheet_listing.proofs.cells.put_cells.Statement.{statement}
 use Rattle.sheet_listing.proofs.cells.put_cells.Tie as tie
 
