@@ -4,37 +4,29 @@ use mathlib.Core.List.{List}
 use Prim.Native.Nat.{ℕ, _^_, _<_}
 use native.Mathlib.Nat.{mul-le-mul}
 use native.Mathlib.Omega.{arith}
-use lib.Dec.{eqb}
 use lib.IntN.{ℤ, pos}
 use lib.ListN.{length, take, drop, length-append, length-take, length-drop}
-use borrow.Author.Tests.{not-false, eqb-true}
 use Rattle.decide.specs.Refusal.{Verdict, accepted, firstThat}
-use Rattle.decide.proofs.Refusal.{accepted-passes}
-use Rattle.decide.proofs.Truth.{false-iff}
-use Rattle.cube.specs.Cube.{volume}
-use Rattle.cube.proofs.Words.{side-in}
 use Rattle.sheet.specs.Part.{part, partOrder}
 use Rattle.sheet.proofs.Parts.{length-head-at-most, length-cells-at-most}
-use Rattle.sheet_listing.specs.declared.Written.{Written}
-use Rattle.sheet_listing.specs.declared.Written.the-variants.{Bytes, Refused}
-use Rattle.sheet_listing.specs.Writes.{Says, Writes}
+use Rattle.sheet_text.specs.declared.Written.{Written}
+use Rattle.sheet_text.specs.declared.Written.the-variants.{Bytes, Refused}
+use Rattle.sheet_text.specs.Writes.{Says, Writes}
+use Rattle.sheet_text.proofs.Refusals.{passes}
 use Rattle.exports.specs.Signed.{signed}
 use Rattle.exports.specs.Text.{SmallWritten, numberOfWritten, WritesSigned}
 
 -- A part of a cube has at most 21 bytes for each of 262144 cells, and the heading.
 pub part-small : (S p count textLength : ℕ) (cube : List ℕ) →
     firstThat (partOrder S count (length cube) textLength) ≡ accepted → length (part S p count cube) < 2 ^ 32
-unfolding partOrder part
+unfolding part
 part-small S p count textLength cube e =
-    let a = accepted-passes _ _ _ e in
-    let b = accepted-passes _ _ _ (a .1) in
-    let side = side-in S .0 (false-iff _ .0 (a .0)) .1 in
-    let whole : length cube ≡ volume S = eqb-true (length cube) (volume S) (not-false (eqb (length cube) (volume S)) (b .0)) in
+    let a = passes S (length cube) _ e in
     rw length-append (
     omega (
       arith,
-      whole,
-      mul-le-mul (mul-le-mul side side) side,
+      a .whole,
+      mul-le-mul (mul-le-mul (a .side-most) (a .side-most)) (a .side-most),
       length-head-at-most p,
       length-cells-at-most S p (take count (drop p cube)),
       length-take count (drop p cube),

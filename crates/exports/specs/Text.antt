@@ -5,9 +5,9 @@ use Prim.Native.Nat.{ℕ, _^_, _<_}
 use lib.IntN.{ℤ, pos}
 use lib.ListN.{length}
 use Rattle.decide.specs.Refusal.{Verdict}
-use Rattle.sheet_listing.specs.declared.Written.{Written}
-use Rattle.sheet_listing.specs.declared.Written.the-variants.{Bytes, Refused}
-use Rattle.sheet_listing.specs.Writes.{textAfter}
+use Rattle.sheet_text.specs.declared.Written.{Written}
+use Rattle.sheet_text.specs.declared.Written.the-variants.{Bytes, Refused}
+use Rattle.sheet_text.specs.Writes.{textAfter}
 use Rattle.exports.specs.Signed.{minus, signed}
 
 -- A number of bytes that 32 bits hold.

@@ -9,7 +9,7 @@ ghost use Rattle.sheet.specs.Printed.{refusalLine};
 ghost use Rattle.sheet.specs.Part.{part, partOrder, lineOrder};
 ghost use Rattle.exports.specs.Text.{SmallWritten, numberOfWritten, WritesSigned};
 use crate::signed::refused;
-use sheet_listing::Written;
+use sheet_text::Written;
 
 #[no_mangle]
 pub extern "C" fn gidzkhalu_list_part(
@@ -30,7 +30,7 @@ pub extern "C" fn gidzkhalu_refusal_line(number: u32, line: u32, text: &mut [u8]
     ensures { λ r. ⌜ WritesSigned (firstThat (lineOrder (length (now (text .entry))))) (refusalLine number line)
         (now (text .entry)) (now (text .exit)) r ⌝ }
 {
-    of_written(sheet_listing::refusal_line(number, line, text))
+    of_written(sheet_text::refusal_line(number, line, text))
 }
 
 // The number of bytes written, or minus the refusal's number.

@@ -1,5 +1,5 @@
 -- A listing, and the refusal line, written into a lent text: a listing in parts, by ranges of byte places.
-use mathlib.Core.Bool.{cond, not}
+use mathlib.Core.Bool.{Bool, cond, not}
 use mathlib.Core.List.{List, [], _∷_, _++_}
 use Prim.Native.Nat.{ℕ, _+_, _*_}
 use lib.Dec.{ltb, eqb}
@@ -12,13 +12,17 @@ use Rattle.sheet.specs.Printed.{cellLines, heading}
 unfoldable pub part : (S p count : ℕ) (cube : List ℕ) → List ℕ
 part S p count cube = cond (eqb p 0) heading [] ++ cellLines S p (take count (drop p cube))
 
--- A part's order: 11, 21, 22. 22: the text is shorter than 21 × (count + 1) bytes, the heading and a line for each place.
-unfoldable pub partOrder : (S count cubeLength textLength : ℕ) → List Rule
-partOrder S count cubeLength textLength =
+-- The order of a call that writes of a cube into a text: 11, 21, 22. When the text is too short, each call says itself.
+unfoldable pub textOrder : (S cubeLength : ℕ) (short : Bool) → List Rule
+textOrder S cubeLength short =
     11 when sideOut S ∷
     21 when not (eqb cubeLength (volume S)) ∷
-    22 when ltb textLength (21 * (count + 1)) ∷
+    22 when short ∷
     []
+
+-- A part's order. 22: the text is shorter than 21 × (count + 1) bytes, the heading and a line for each place.
+abbrev pub partOrder : (S count cubeLength textLength : ℕ) → List Rule
+partOrder S count cubeLength textLength = textOrder S cubeLength (ltb textLength (21 * (count + 1)))
 
 -- The refusal line's order. 22: the text is shorter than 18 bytes.
 unfoldable pub lineOrder : (textLength : ℕ) → List Rule

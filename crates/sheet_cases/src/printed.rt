@@ -7,7 +7,7 @@ use crate::digest::Digest;
 use crate::digest::empty;
 use crate::digest::extended;
 use sheet_cube::Answer;
-use sheet_listing::Written;
+use sheet_text::Written;
 
 // A listing by list_planes, or, if part is not 0, by list_part in parts of so many places; or the refusal line.
 pub(crate) fn printed(answer: Answer, lent: &[u8], part: u32, text: &mut [u8]) -> Digest
@@ -17,7 +17,7 @@ pub(crate) fn printed(answer: Answer, lent: &[u8], part: u32, text: &mut [u8]) -
         Answer::Drawn(size) => listed(size.side, lent, part as usize, text),
         Answer::Refused(refusal) => after(
             empty(),
-            sheet_listing::refusal_line(refusal.number, refusal.line, text),
+            sheet_text::refusal_line(refusal.number, refusal.line, text),
             text,
         ),
     }

@@ -7,9 +7,9 @@ use native.Mathlib.Omega.{arith}
 use lib.ListN.{length}
 use Rattle.sheet.specs.Part.{part}
 use Rattle.sheet.proofs.Parts.{part-append, length-part-at-most}
-use Rattle.sheet_listing.specs.Puts.{Puts}
+use Rattle.sheet_text.specs.Puts.{Puts}
 use Rattle.sheet_listing.specs.ByPlane.{ListsPlanes}
-use Rattle.sheet_listing.proofs.Puts.{puts-length, puts-front}
+use Rattle.sheet_text.proofs.Puts.{puts-length, puts-front}
 
 -- Planes of P places, before the next and with it.
 module _ (P z next : ℕ) (h : z ≤ next) where

@@ -6,20 +6,20 @@ ghost use lib.ListN.{length, take, drop};
 ghost use Rattle.cube.specs.Cube.{volume};
 ghost use Rattle.sheet.specs.Line.{asLine};
 ghost use Rattle.sheet.specs.Printed.{cellLines};
-ghost use Rattle.sheet_listing.specs.Puts.{Puts};
+ghost use Rattle.sheet_text.specs.Puts.{Puts};
 ghost use Rattle.sheet_listing.specs.Row.{rowLines};
-use crate::text::lesser;
-use crate::text::put_number;
+use sheet_text::text::lesser;
+use sheet_text::text::put_columns;
 
 // The line of a marked cell.
 fn put_cell(x: u8, y: u8, z: u8, mark: u8, text: &mut [u8], at: usize)
     requires { ⌜ at + 21 ≤ length (now text) ⌝ }
     ensures { λ _. ⌜ Puts (asLine (x ∷ y ∷ z ∷ mark ∷ [])) at (now (text .entry)) (now (text .exit)) (at + 21) ⌝ }
 {
-    put_number(wide(x), text, at);
-    put_number(wide(y), text, at + 5);
-    put_number(wide(z), text, at + 10);
-    put_number(wide(mark), text, at + 15);
+    put_columns(wide(x), 5, text, at);
+    put_columns(wide(y), 5, text, at + 5);
+    put_columns(wide(z), 5, text, at + 10);
+    put_columns(wide(mark), 5, text, at + 15);
     text[at + 20] = b'\n';
 }
 

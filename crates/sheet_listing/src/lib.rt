@@ -1,27 +1,19 @@
-// The listing of a colour cube as text, in parts, and the refusal line.
+// The listing of a colour cube as text, in parts.
 mod cells;
-mod text;
 
 ghost use mathlib.Core.Path.{_≡_};
 ghost use Prim.Native.Nat.{_+_, _*_, _-_, _≤_, _<_, min};
 ghost use lib.ListN.{length};
 ghost use Rattle.decide.specs.Refusal.{firstThat};
 ghost use Rattle.cube.specs.Cube.{volume};
-ghost use Rattle.sheet.specs.Printed.{refusalLine};
-ghost use Rattle.sheet.specs.Part.{part, partOrder, lineOrder};
-ghost use Rattle.sheet_listing.specs.Puts.{Puts};
-ghost use Rattle.sheet_listing.specs.Writes.{Writes};
+ghost use Rattle.sheet.specs.Part.{part, partOrder};
+ghost use Rattle.sheet_text.specs.Puts.{Puts};
+ghost use Rattle.sheet_text.specs.Writes.{Writes};
 ghost use Rattle.sheet_listing.specs.ByPlane.{ListsPlanes};
 use crate::cells::put_cells;
-use crate::text::lesser;
-use crate::text::put_bytes;
-use crate::text::put_number;
-
-// The number of bytes written, or the refusal's number.
-pub enum Written {
-    Bytes(usize),
-    Refused(u32),
-}
+use sheet_text::Written;
+use sheet_text::text::lesser;
+use sheet_text::text::put_bytes;
 
 // The first plane that is not listed yet, and the number of bytes written.
 pub struct Planes {
@@ -35,32 +27,11 @@ pub fn list_part(side: u32, cube: &[u8], first: usize, count: usize, text: &mut 
         (firstThat (partOrder side count (length (now (cube .entry))) (length (now (text .entry)))))
         (part side first count (now (cube .entry))) (now (text .entry)) (now (text .exit)) r ⌝ }
 {
-    if side < 2 || 64 < side {
-        return Written::Refused(11);
+    let refusal = sheet_text::refusal(side, cube.len(), text.len() / 21 <= count);
+    if refusal != 0 {
+        return Written::Refused(refusal);
     }
-    let s = side as usize;
-    if cube.len() != s * s * s {
-        return Written::Refused(21);
-    }
-    if text.len() / 21 <= count {
-        return Written::Refused(22);
-    }
-    Written::Bytes(put_part(s, cube, first, count, text, 0))
-}
-
-// Writes the refusal line. Refused: 22.
-pub fn refusal_line(number: u32, line: u32, text: &mut [u8]) -> Written
-    ensures { λ r. ⌜ Writes (firstThat (lineOrder (length (now (text .entry))))) (refusalLine number line)
-        (now (text .entry)) (now (text .exit)) r ⌝ }
-{
-    if text.len() < 18 {
-        return Written::Refused(22);
-    }
-    put_bytes(b"REFUSED", text, 0);
-    put_number(number, text, 7);
-    put_number(line, text, 12);
-    text[17] = b'\n';
-    Written::Bytes(18)
+    Written::Bytes(put_part(side as usize, cube, first, count, text, 0))
 }
 
 // Writes the listing of whole planes from plane z on, while there is room for one more with every cell marked.

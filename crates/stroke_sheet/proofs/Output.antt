@@ -16,9 +16,9 @@ use Rattle.sheet.specs.Call.{drew, refused}
 use Rattle.sheet_cube.specs.declared.Answer.{Answer}
 use Rattle.sheet_cube.specs.Answer.{saidOf, DrawsSheet}
 use Rattle.sheet_cube.proofs.Called.{side-least, cube-within, accepted-prints, refused-prints}
-use Rattle.sheet_listing.specs.declared.Written.{Written}
-use Rattle.sheet_listing.specs.declared.Written.the-variants.{Bytes}
-use Rattle.sheet_listing.specs.Writes.{Writes, textAfter}
+use Rattle.sheet_text.specs.declared.Written.{Written}
+use Rattle.sheet_text.specs.declared.Written.the-variants.{Bytes}
+use Rattle.sheet_text.specs.Writes.{Writes, textAfter}
 use Rattle.sheet_listing.specs.declared.Planes.{Planes}
 use Rattle.sheet_listing.specs.ByPlane.{ListsPlanes}
 

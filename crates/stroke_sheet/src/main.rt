@@ -7,7 +7,7 @@ ghost use lib.ListN.{length};
 ghost use Rattle.cube.specs.Cube.{volume};
 use sheet_cube::Answer;
 use sheet_cube::Refusal;
-use sheet_listing::Written;
+use sheet_text::Written;
 
 // The input is read to its end, or to one byte past the longest sheet: what follows changes nothing.
 fn main() {
@@ -44,7 +44,7 @@ fn print_sheet(input: &[u8]) -> bool {
 }
 
 fn print_refusal(refusal: Refusal, text: &mut [u8]) -> bool {
-    match sheet_listing::refusal_line(refusal.number, refusal.line, text) {
+    match sheet_text::refusal_line(refusal.number, refusal.line, text) {
         Written::Bytes(count) => io::write_all(libc::STDOUT_FILENO, &text[..count]),
         Written::Refused(_) => false,
     }

@@ -1,85 +1,64 @@
--- `list_part` meets its contract: the tests are made in the order's turn, and a part that none refuses is written.
+-- `list_part` meets its contract: it is refused by the number that is answered, and a part that none refuses is written.
 use borrow.Author.Needs.{needs}
-use borrow.Author.Tests.{lt-ltb, le-ltb, ltb-false, eq-eqb, ne-eqb}
+use borrow.Author.Tests.{ltb-false}
 use mathlib.Core.Path.{_≡_}
-use mathlib.Core.Bool.{true, false}
-use mathlib.Core.Logic.{⊎-elim}
-use Prim.Native.Nat.{_+_, _*_, _≤_, _<_}
-use native.Mathlib.Nat.{le-trans, mul-le-mul}
+use Prim.Native.Nat.{ℕ, suc, _+_, _*_, _/_, _≤_}
+use native.Mathlib.Nat.{le-trans}
 use native.Mathlib.Omega.{arith}
+use lib.Dec.{leb, ltb}
 use lib.ListN.{length}
 use denote.Ref.{now}
 use Rattle.decide.specs.Refusal.{firstThat}
-use Rattle.cube.specs.Cube.{sideOut}
+use Rattle.decide.proofs.Truth.{at-most-agrees}
 use Rattle.sheet.specs.Part.{partOrder}
 use Rattle.sheet.proofs.Parts.{length-part-at-most}
-use Rattle.sheet_listing.proofs.Writes.{writes-accepted, writes-refused}
+use Rattle.sheet_text.specs.Numbered.{numbered}
+use Rattle.sheet_text.proofs.Writes.{writes-accepted, writes-refused}
+use Rattle.sheet_text.proofs.Refusals.{Passes, none-refuses, some-refuses}
 use Rattle.sheet_listing.proofs.list_part.Statement.{statement}
 use Rattle.sheet_listing.proofs.list_part.Tie as tie
 
--- The side is outside 2 to 64.
-outside : (c : tie.Joined1) → sideOut (c .before .before .before .args .side) ≡ true
-unfolding sideOut
-outside c =
-    let side = c .before .before .before .args .side in
-    ⊎-elim (λ w. simp (lt-ltb side 2 (w .taken))) (λ w. simp (le-ltb side 2 (w .0 .left), w .1 .taken)) (c .if1 .came)
+-- Room for as many lines as places is room for the heading and a line for each.
+same-test : (bytes count : ℕ) → leb (bytes / 21) count ≡ ltb bytes (21 * (count + 1))
+same-test bytes count =
+    at-most-agrees (bytes / 21) count (suc bytes) (21 * (count + 1)) (λ h. omega arith) (λ h. omega arith)
 
--- The side is from 2 to 64.
-inside : (c : tie.Else2) → sideOut (c .before .before .before .before .args .side) ≡ false
-unfolding sideOut
-inside c = simp (le-ltb (c .before .before .before .before .args .side) 2 (c .before .if1 .left), c .if2 .left)
+refusal-requires : tie.Need-refusal-requires
+refusal-requires c κs = search needs
+
+-- The number answered, by the part's order.
+answered : (c : tie.After-refusal) →
+    let a = c .before .before .before .args in
+    firstThat (partOrder (a .side) (a .count) (length (now (a .cube))) (length (now (a .text)))) ≡ numbered (c .refusal .result)
+answered c = rw same-test at (c .refusal .ensures)
 
 returns : tie.Need-returns
-unfolding firstThat partOrder
-returns c = writes-refused (simp (outside c))
+returns c = writes-refused (some-refuses _ _ _ (answered (c .before)) (c .if1 .taken))
 
--- So its square and its cube are small.
-at-most-64 : (c : tie.Else2) → c .before .before .before .before .args .side ≤ 64
-at-most-64 c = ltb-false _ _ (c .if2 .left)
+-- A part that no number refuses, and the room that it has.
+module _ (c : tie.Else1) where
+  abbrev s : tie.Start
+  s = c .before .before .before .before
 
-mul-if3 : tie.Need-mul-if3
-mul-if3 c = let m = at-most-64 c in omega (arith, mul-le-mul m m)
+  passing : Passes (s .args .side) (length (now (s .args .cube))) (ltb (length (now (s .args .text))) (21 * (s .args .count + 1)))
+  passing = none-refuses _ _ _ (answered (c .before)) (c .if1 .left)
 
-mul-if3-2 : tie.Need-mul-if3-2
-mul-if3-2 c = let m = at-most-64 c in omega (arith, mul-le-mul (mul-le-mul m m) m)
-
-returns-2 : tie.Need-returns-2
-unfolding firstThat partOrder
-returns-2 c = writes-refused (simp (inside (c .before), ne-eqb _ _ (c .if3 .taken)))
-
-returns-3 : tie.Need-returns-3
-unfolding firstThat partOrder
-returns-3 c =
-    let a = c .before .before .before .before .before .before .args in
-    let short : length (now (a .text)) < 21 * (a .count + 1) = omega (arith, c .if4 .taken) in
-    writes-refused (simp (inside (c .before .before), eq-eqb _ _ (c .before .if3 .left), lt-ltb _ _ short))
+  room : 21 * (s .args .count + 1) ≤ length (now (s .args .text))
+  room = ltb-false _ _ (passing .room)
 
 put-part-requires : tie.Need-put-part-requires
-put-part-requires c κs = search needs
+put-part-requires c κs =
+    let p = passing (c .before) in
+    ((p .side-least, p .side-most), (p .whole, omega (arith, room (c .before))))
 
 same-length : tie.Need-same-length
 same-length c = search needs
 
-returns-4 : tie.Need-returns-4
-unfolding firstThat partOrder
-returns-4 c =
+returns-2 : tie.Need-returns-2
+returns-2 c =
     let e = c .before .before .before .before in
-    let a = e .before .before .before .before .before .before .args in
-    let long : 21 * (a .count + 1) ≤ length (now (a .text)) = omega (arith, e .if4 .left) in
-    writes-accepted
-    (simp (inside (e .before .before), eq-eqb _ _ (e .before .if3 .left), le-ltb _ _ long))
-    (le-trans (length-part-at-most (a .side) (a .first) (a .count) (now (a .cube))) long)
-    (c .before .before .put-part .ensures)
+    writes-accepted (passing e .verdict) (le-trans (length-part-at-most _ _ _ _) (room e)) (c .before .before .put-part .ensures)
 
 pub list-part-spec : {M : Type 1} → statement M
 list-part-spec =
-    tie.close
-    (tie.spec
-    returns
-    mul-if3
-    mul-if3-2
-    returns-2
-    returns-3
-    put-part-requires
-    same-length
-    returns-4)
+    tie.close (tie.spec refusal-requires returns put-part-requires same-length returns-2)

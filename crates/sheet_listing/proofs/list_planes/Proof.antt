@@ -7,7 +7,7 @@ use native.Mathlib.Omega.{arith}
 use lib.ListN.{length}
 use denote.Ref.{now}
 use Rattle.sheet_listing.specs.ByPlane.{ListsPlanes}
-use Rattle.sheet_listing.proofs.Puts.{puts-length}
+use Rattle.sheet_text.proofs.Puts.{puts-length}
 use Rattle.sheet_listing.proofs.ByPlane.{first-plane, next-plane}
 use Rattle.sheet_listing.proofs.list_planes.Statement.{statement}
 use Rattle.sheet_listing.proofs.list_planes.Tie as tie

@@ -16,8 +16,8 @@ use Rattle.decide.proofs.Truth.{decided, at-most, not-at-most}
 use Rattle.sheet.specs.Printed.{heading}
 use Rattle.sheet.specs.Part.{part}
 use Rattle.sheet.proofs.Parts.{length-head-at-most}
-use Rattle.sheet_listing.specs.Puts.{Puts}
-use Rattle.sheet_listing.proofs.Puts.{puts-none, puts-append, puts-length}
+use Rattle.sheet_text.specs.Puts.{Puts}
+use Rattle.sheet_text.proofs.Puts.{puts-none, puts-append, puts-length}
 use Rattle.sheet_listing.proofs.put_part.Statement.{statement}
 use Rattle.sheet_listing.proofs.put_part.Tie as tie
 

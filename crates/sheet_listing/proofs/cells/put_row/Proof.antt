@@ -10,9 +10,9 @@ use lib.ListN.{length, take, getD}
 use lib.Seq.{take-all}
 use denote.Ref.{now}
 use Rattle.sheet.specs.Line.{asLine}
-use Rattle.sheet_listing.specs.Puts.{Puts}
+use Rattle.sheet_text.specs.Puts.{Puts}
 use Rattle.sheet_listing.specs.Row.{rowLines}
-use Rattle.sheet_listing.proofs.Puts.{puts-none, puts-append, puts-length}
+use Rattle.sheet_text.proofs.Puts.{puts-none, puts-append, puts-length}
 use Rattle.sheet_listing.proofs.Rows.{line-marked, line-unmarked, row-next}
 use Rattle.sheet_listing.proofs.cells.put_row.Statement.{statement}
 use Rattle.sheet_listing.proofs.cells.put_row.Tie as tie

@@ -1,17 +1,27 @@
 -- Writes one after another: what is written from where the first ends follows its bytes.
 use mathlib.Core.Path.{_≡_, refl, sym, _∙_, ap}
 use mathlib.Core.List.{List, [], _∷_, _++_}
-use Prim.Native.Nat.{ℕ, suc, _+_, _≤_}
+use Prim.Native.Nat.{ℕ, suc, _+_, _≤_, _<_}
 use native.Mathlib.Nat.{add-zero, zero-add, add-suc, suc-add}
 use native.Mathlib.Omega.{arith}
 use lib.ListN.{length, set, take, length-append}
-use lib.Seq.{sets, sets-eq, length-sets, length-take-le, take-at}
+use lib.Seq.{set-comm, sets, sets-eq, length-sets, length-take-le, take-at}
 use Rattle.sheet.specs.Part.{over}
-use Rattle.sheet_listing.specs.Puts.{Puts}
+use Rattle.sheet_text.specs.Puts.{Puts}
 
 sets-append : (a b l : List ℕ) (i : ℕ) → sets (sets l i a) (i + length a) b ≡ sets l i (a ++ b)
 sets-append [] b l i = rw add-zero
 sets-append (v ∷ a) b l i = rw (add-suc, ← suc-add) (sets-append a b (set l i v) (suc i))
+
+-- A byte stored before them.
+pub sets-before : (vs l : List ℕ) (i b : ℕ) → set (sets l (suc i) vs) i b ≡ sets l i (b ∷ vs)
+sets-before vs l i b = after vs l (suc i) (omega arith)
+  where
+    after : (vs l : List ℕ) (j : ℕ) → i < j → set (sets l j vs) i b ≡ sets (set l i b) j vs
+    after [] l j h = refl
+    after (v ∷ vs) l j h =
+        after vs (set l j v) (suc j) (omega arith) ∙
+        ap (λ m. sets m (suc j) vs) (set-comm l j i v b (λ e. omega (arith, e)))
 
 -- Nothing.
 pub puts-none : (at : ℕ) (t : List ℕ) → Puts [] at t t at

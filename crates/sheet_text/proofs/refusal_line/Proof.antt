@@ -11,11 +11,11 @@ use Rattle.sheet.specs.Line.{inLine}
 use Rattle.sheet.specs.Printed.{refusalLine}
 use Rattle.sheet.specs.Part.{lineOrder}
 use Rattle.sheet.proofs.Printed.{length-refusalLine}
-use Rattle.sheet_listing.specs.Puts.{Puts}
-use Rattle.sheet_listing.proofs.Puts.{puts-byte, puts-append, puts-next, puts-length}
-use Rattle.sheet_listing.proofs.Writes.{writes-accepted, writes-refused}
-use Rattle.sheet_listing.proofs.refusal_line.Statement.{statement}
-use Rattle.sheet_listing.proofs.refusal_line.Tie as tie
+use Rattle.sheet_text.specs.Puts.{Puts}
+use Rattle.sheet_text.proofs.Puts.{puts-byte, puts-append, puts-next, puts-length}
+use Rattle.sheet_text.proofs.Writes.{writes-accepted, writes-refused}
+use Rattle.sheet_text.proofs.refusal_line.Statement.{statement}
+use Rattle.sheet_text.proofs.refusal_line.Tie as tie
 
 returns : tie.Need-returns
 unfolding firstThat lineOrder
@@ -29,11 +29,11 @@ slice-aggregate-put-bytes c = search needs
 put-bytes-requires : tie.Need-put-bytes-requires
 put-bytes-requires c κs = search needs
 
-put-number-requires : tie.Need-put-number-requires
-put-number-requires c κs = search needs
+put-columns-requires : tie.Need-put-columns-requires
+put-columns-requires c κs = search needs
 
-put-number-requires-2 : tie.Need-put-number-requires-2
-put-number-requires-2 c κs = search needs
+put-columns-requires-2 : tie.Need-put-columns-requires-2
+put-columns-requires-2 c κs = search needs
 
 slice-write-text : tie.Need-slice-write-text
 slice-write-text c = omega arith
@@ -44,12 +44,12 @@ start c = c .before .before .before .before .before .before .before .before .bef
 -- The whole line.
 line : (c : tie.After-slice-known4) →
     let a = start c .args in
-    Puts (refusalLine (a .number) (a .line)) 0 (now (a .text)) (set (c .before .before .put-number2 .last .1 .0) 17 10) 18
+    Puts (refusalLine (a .number) (a .line)) 0 (now (a .text)) (set (c .before .before .put-columns2 .last .1 .1 .0) 17 10) 18
 unfolding refusalLine inLine
 line c =
     let n = c .before .before .before .before .before .before in
     puts-append (puts-next (n .before .before .before .before .put-bytes .ensures) refl)
-    (puts-append (n .put-number .ensures) (puts-append (c .before .before .put-number2 .ensures) (puts-byte refl)))
+    (puts-append (n .put-columns .ensures) (puts-append (c .before .before .put-columns2 .ensures) (puts-byte refl)))
 
 same-length : tie.Need-same-length
 same-length c = puts-length (line c)
@@ -67,8 +67,8 @@ refusal-line-spec =
     returns
     slice-aggregate-put-bytes
     put-bytes-requires
-    put-number-requires
-    put-number-requires-2
+    put-columns-requires
+    put-columns-requires-2
     slice-write-text
     same-length
     returns-2)

@@ -8,15 +8,21 @@ use Prim.Native.Nat.{ℕ, zero, suc, _/_, _<_}
 use native.Mathlib.Numerals.{add-one}
 use native.Mathlib.Omega.{arith}
 use lib.Dec.{ltb, eqb}
-use lib.ListN.{replicate, replicate-append-replicate}
+use lib.ListN.{length, length-append, replicate, replicate-append-replicate}
 use Rattle.decide.proofs.Truth.{decided, true-of, false-of, less, not-less, equal}
-use Rattle.sheet.specs.Field.{inColumns, columns}
-use Rattle.sheet_listing.specs.Column.{lastOf, columnOf}
+use Rattle.sheet.specs.Field.{inColumns}
+use Rattle.sheet_text.specs.Column.{lastOf, columnOf}
 
 -- The columns before the last, of what is left.
-before : (w v : ℕ) → List ℕ
+unfoldable pub before : (w v : ℕ) → List ℕ
 before zero v = []
 before (suc w) v = before w (v / 10) ++ columnOf v ∷ []
+
+-- As many as asked for.
+pub length-before : (w v : ℕ) → length (before w v) ≡ w
+unfolding before
+length-before zero v = refl
+length-before (suc w) v = rw (length-append, length-before w (v / 10), add-one)
 
 -- Blanks, where nothing is left.
 blanks : (w : ℕ) → before w 0 ≡ replicate w 32
@@ -34,19 +40,13 @@ tenth w v some =
     (decided (ltb v 10))
 
 -- Where something is left, the last column has a digit.
-in-columns : (w v : ℕ) → 0 < v → inColumns w v ≡ before w v
+some-left : (w v : ℕ) → 0 < v → inColumns w v ≡ before w v
 unfolding inColumns before columnOf
-in-columns zero v more = refl
-in-columns (suc w) v more =
-    rw (false-of (eqb v 0) (λ t. let e = equal v 0 .0 t in omega arith), tenth w v (in-columns w))
+some-left zero v more = refl
+some-left (suc w) v more =
+    rw (false-of (eqb v 0) (λ t. let e = equal v 0 .0 t in omega arith), tenth w v (some-left w))
 
--- A number in 5 columns.
-pub five-columns : (v : ℕ) →
-    columns v ≡
-    columnOf (v / 10000) ∷ columnOf (v / 1000) ∷ columnOf (v / 100) ∷ columnOf (v / 10) ∷ lastOf v ∷ []
-unfolding inColumns before
-five-columns v =
-    let hundredth : v / 10 / 10 ≡ v / 100 = omega arith in
-    let thousandth : v / 100 / 10 ≡ v / 1000 = omega arith in
-    let next : v / 1000 / 10 ≡ v / 10000 = omega arith in
-    rw (tenth 4 v (in-columns 4), hundredth, thousandth, next)
+-- A number in columns: its last digit, after the columns of a tenth of it.
+pub in-columns : (w v : ℕ) → inColumns (suc w) v ≡ before w (v / 10) ++ lastOf v ∷ []
+unfolding inColumns
+in-columns w v = rw (tenth w v (some-left w))

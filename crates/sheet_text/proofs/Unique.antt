@@ -4,9 +4,9 @@ use mathlib.Core.List.{List}
 use Prim.Native.Nat.{ℕ}
 use native.Mathlib.Omega.{arith}
 use Rattle.decide.specs.Refusal.{Verdict}
-use Rattle.sheet_listing.specs.declared.Written.{Written}
-use Rattle.sheet_listing.specs.declared.Written.the-variants.{Bytes, Refused}
-use Rattle.sheet_listing.specs.Writes.{Says, Writes}
+use Rattle.sheet_text.specs.declared.Written.{Written}
+use Rattle.sheet_text.specs.declared.Written.the-variants.{Bytes, Refused}
+use Rattle.sheet_text.specs.Writes.{Says, Writes}
 
 says-unique : (v : Verdict) (n : ℕ) (r s : Written) → Says v n r → Says v n s → r ≡ s
 says-unique v n (Bytes j) (Bytes k) p q = ap Bytes (p .1 ∙ sym (q .1))

@@ -1,9 +1,9 @@
 -- `column` meets its contract: the test is that of the definition.
 use borrow.Author.Needs.{needs}
 use borrow.Author.Tests.{eq-eqb, ne-eqb}
-use Rattle.sheet_listing.specs.Column.{columnOf}
-use Rattle.sheet_listing.proofs.text.column.Statement.{statement}
-use Rattle.sheet_listing.proofs.text.column.Tie as tie
+use Rattle.sheet_text.specs.Column.{columnOf}
+use Rattle.sheet_text.proofs.text.column.Statement.{statement}
+use Rattle.sheet_text.proofs.text.column.Tie as tie
 
 digit-requires : tie.Need-digit-requires
 digit-requires c κs = search needs

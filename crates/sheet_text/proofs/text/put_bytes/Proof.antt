@@ -9,10 +9,10 @@ use native.Mathlib.Omega.{arith}
 use lib.ListN.{length, take, getD, set}
 use lib.Seq.{take-suc, take-all}
 use denote.Ref.{now}
-use Rattle.sheet_listing.specs.Puts.{Puts}
-use Rattle.sheet_listing.proofs.Puts.{puts-none, puts-byte, puts-append, puts-length}
-use Rattle.sheet_listing.proofs.text.put_bytes.Statement.{statement}
-use Rattle.sheet_listing.proofs.text.put_bytes.Tie as tie
+use Rattle.sheet_text.specs.Puts.{Puts}
+use Rattle.sheet_text.proofs.Puts.{puts-none, puts-byte, puts-append, puts-length}
+use Rattle.sheet_text.proofs.text.put_bytes.Statement.{statement}
+use Rattle.sheet_text.proofs.text.put_bytes.Tie as tie
 
 -- The first i bytes are written.
 record SoFar (bytes text₀ : List ℕ) (at : ℕ) (text : List ℕ) (i : ℕ) : Type 0 where

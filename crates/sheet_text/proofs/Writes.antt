@@ -5,10 +5,10 @@ use Prim.Native.Nat.{ℕ, _≤_}
 use native.Mathlib.Nat.{zero-add}
 use lib.ListN.{length}
 use Rattle.decide.specs.Refusal.{Verdict, accepted, refused}
-use Rattle.sheet_listing.specs.declared.Written.the-variants.{Bytes, Refused}
-use Rattle.sheet_listing.specs.Puts.{Puts}
-use Rattle.sheet_listing.specs.Writes.{Writes}
-use Rattle.sheet_listing.proofs.Puts.{puts-over}
+use Rattle.sheet_text.specs.declared.Written.the-variants.{Bytes, Refused}
+use Rattle.sheet_text.specs.Puts.{Puts}
+use Rattle.sheet_text.specs.Writes.{Writes}
+use Rattle.sheet_text.proofs.Puts.{puts-over}
 
 module _ {v : Verdict} {bytes text : List ℕ} where
   -- No number applies, and the bytes are written from the front.

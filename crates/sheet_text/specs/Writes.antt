@@ -5,8 +5,8 @@ use Prim.Native.Nat.{ℕ}
 use lib.ListN.{length}
 use Rattle.decide.specs.Refusal.{Verdict, accepted, refused}
 use Rattle.sheet.specs.Part.{over}
-use Rattle.sheet_listing.specs.declared.Written.{Written}
-use Rattle.sheet_listing.specs.declared.Written.the-variants.{Bytes, Refused}
+use Rattle.sheet_text.specs.declared.Written.{Written}
+use Rattle.sheet_text.specs.declared.Written.the-variants.{Bytes, Refused}
 
 -- What an answer says of a call with the given verdict and number of bytes: no number applies and it is the number of
 -- bytes, or it is the number that refuses the call.
