@@ -15,7 +15,7 @@ use Rattle.sheet.specs.Sheet.{sideOrder, markOut, curveOrder, judgeCurve
 use Rattle.sheet.specs.Printed.{cubeOf, cellLine, cellLines, listing, refusalLine, output}
 use Rattle.sheet.specs.Known.{times, known, sameBytes, allPrint}
 
-pub known-print : T (allPrint known)
+pub known-print : T (allPrint output known)
 unfolding blend scale points value someBelow someOf firstThat withinHalf towards move walk cell farApart someSample tooLong
     someAxis sideOut place offset coordinate exact cellOf countOut coordinateOut stepsTooLong order drawVerdict row rows
     samples marked cells drawn isDigit areDigits afterBlanks isNumber digitsOf isBad decimal valueOf inColumns

@@ -6,14 +6,14 @@ use Prim.Native.Nat.{ℕ, zero, suc}
 use lib.Dec.{eqb}
 use lib.ListN.{take, drop}
 use Rattle.sheet.specs.Line.{asLine}
-use Rattle.sheet.specs.Printed.{heading, output}
+use Rattle.sheet.specs.Printed.{heading}
 
 -- An input and its output.
 pub record Known : Type 0 where
   pub input : List ℕ
   pub printed : List ℕ
 
-abbrev _prints_ : List ℕ → List ℕ → Known
+abbrev pub _prints_ : List ℕ → List ℕ → Known
 i prints o = record { input = i; printed = o }
 
 infix 68 _prints_
@@ -21,7 +21,7 @@ infix 68 _prints_
 --
 --     4
 --     7    3    0    0    0    1    0    0    2    0    0    3    0    0
-abbrev sample : List ℕ
+abbrev pub sample : List ℕ
 sample =
     32 ∷ 32 ∷ 32 ∷ 32 ∷ 52 ∷ 10 ∷
     32 ∷ 32 ∷ 32 ∷ 32 ∷ 55 ∷ 32 ∷ 32 ∷ 32 ∷ 32 ∷ 51 ∷ 32 ∷ 32 ∷ 32 ∷ 32 ∷ 48 ∷
@@ -51,14 +51,14 @@ sampleListing =
     32 ∷ 32 ∷ 32 ∷ 32 ∷ 48 ∷ 32 ∷ 32 ∷ 32 ∷ 32 ∷ 55 ∷ 10 ∷ []
 
 -- REFUSED in letters, then the number and the line.
-abbrev refused-with : (n k : ℕ) → List ℕ
+abbrev pub refused-with : (n k : ℕ) → List ℕ
 refused-with n k = (82 ∷ 69 ∷ 70 ∷ 85 ∷ 83 ∷ 69 ∷ 68 ∷ []) ++ asLine (n ∷ k ∷ [])
 
 -- A curve line that stays in cell 0 but for the x of its last point.
-abbrev stroke : (mark n x : ℕ) → List ℕ
+abbrev pub stroke : (mark n x : ℕ) → List ℕ
 stroke mark n x = asLine (mark ∷ n ∷ 0 ∷ 0 ∷ 0 ∷ 0 ∷ 0 ∷ 0 ∷ 0 ∷ 0 ∷ 0 ∷ x ∷ 0 ∷ 0 ∷ [])
 
-abbrev side : ℕ → List ℕ
+abbrev pub side : ℕ → List ℕ
 side s = asLine (s ∷ [])
 
 -- Field text: blanks and a byte.
@@ -122,7 +122,7 @@ sameBytes [] (b ∷ bs) = false
 sameBytes (a ∷ bs) [] = false
 sameBytes (a ∷ bs) (b ∷ cs) = eqb a b && sameBytes bs cs
 
--- Every input prints its output.
-unfoldable pub allPrint : List Known → Bool
-allPrint [] = true
-allPrint (k ∷ ks) = sameBytes (output (k .input)) (k .printed) && allPrint ks
+-- A program, from input to output, prints for every input what is listed.
+unfoldable pub allPrint : (program : List ℕ → List ℕ) → List Known → Bool
+allPrint program [] = true
+allPrint program (k ∷ ks) = sameBytes (program (k .input)) (k .printed) && allPrint program ks

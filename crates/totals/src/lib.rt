@@ -1,0 +1,1 @@
+// Key totals: definitions and laws, no functions.
