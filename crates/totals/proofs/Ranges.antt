@@ -23,6 +23,14 @@ unfolding sumFrom
 sum-constant p zero v = omega arith
 sum-constant p (suc n) v = rw (sum-constant (suc p) n v, suc-mul) (omega arith)
 
+-- Terms that are at most so much.
+pub sum-bounded : (p n most : ℕ) (f : ℕ → ℕ) → ((i : ℕ) → p ≤ i → i < p + n → f i ≤ most) → sumFrom p n f ≤ n * most
+unfolding sumFrom
+sum-bounded p zero most f h = omega arith
+sum-bounded p (suc n) most f h =
+    let later = sum-bounded (suc p) n most f (λ i from until. h i (omega arith) (omega arith)) in
+    rw suc-mul (omega (arith, later, h p (omega arith) (omega arith)))
+
 -- Sums of two terms.
 pub sum-both : (p n : ℕ) (f g : ℕ → ℕ) → sumFrom p n (λ i. f i + g i) ≡ sumFrom p n f + sumFrom p n g
 unfolding sumFrom

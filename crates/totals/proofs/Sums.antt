@@ -5,7 +5,7 @@ use mathlib.Core.Logic.{⊎-elim}
 use mathlib.Core.Bool.{cond}
 use mathlib.Core.List.{List, [], _∷_, _++_}
 use Prim.Native.Nat.{ℕ, zero, suc, _+_, _-_, _*_, _/_, _≤_, _<_}
-use native.Mathlib.Nat.{zero-add, add-zero, add-comm, mul-one}
+use native.Mathlib.Nat.{zero-add, add-zero, suc-add, add-suc, mul-one}
 use native.Mathlib.Omega.{arith}
 use lib.Dec.{eqb}
 use lib.ListN.{length}
@@ -15,6 +15,13 @@ use Rattle.totals.specs.Totals.{sumOver, count, sum, isHeld, heldFrom, m
 use Rattle.totals.specs.Sums.{sumFrom, sumOf, Bytes}
 use Rattle.totals.proofs.Ranges.{sum-constant, sum-both, all-cells}
 use Rattle.totals.proofs.Marks.{by-held, with-held, without, sum-not-held}
+
+-- One byte more.
+pub sum-more : (f : ℕ → ℕ) (mark p : ℕ) (cube : List ℕ) (b : ℕ) →
+    sumOver f mark p (cube ++ b ∷ []) ≡ sumOver f mark p cube + cond (eqb b mark) (f (p + length cube)) 0
+unfolding sumOver
+sum-more f mark p [] b = rw (add-zero p, add-zero, zero-add)
+sum-more f mark p (a ∷ cube) b = rw (sum-more f mark (suc p) cube b, suc-add, ← add-suc) (omega arith)
 
 -- A byte counts for the mark that it is: not for the marks above it, and among those of a range once.
 module _ (b v : ℕ) where

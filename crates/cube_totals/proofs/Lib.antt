@@ -1,0 +1,2 @@
+-- `Table`: the table of marks, cell by cell.
+pub mod Table
