@@ -20,6 +20,11 @@ pub record Table (S : ℕ) (cube table : List ℕ) : Type 0 where
   pub size : length table ≡ 1024
   pub holds : (m k : ℕ) → m < 256 → k < 4 → getD table (4 * m + k) 0 ≡ sumOver (adds S k) m 0 cube
 
+-- The four numbers of a mark.
+abbrev pub numbersOf : (table : List ℕ) (mark : ℕ) → List ℕ
+numbersOf table m =
+    let at = 4 * m in getD table at 0 ∷ getD table (at + 1) 0 ∷ getD table (at + 2) 0 ∷ getD table (at + 3) 0 ∷ []
+
 -- A number more at one place.
 abbrev pub plus : (table : List ℕ) (i v : ℕ) → List ℕ
 plus table i v = set table i (getD table i 0 + v)

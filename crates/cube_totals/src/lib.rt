@@ -1,2 +1,70 @@
-// The key totals of a cube: for every mark that some cell holds, the count of its cells and the sums of their coordinates.
+// The key totals of a cube: for every mark that some cell holds the count of its cells and the sums of their coordinates.
 mod tally;
+
+ghost use mathlib.Core.Path.{_≡_};
+ghost use mathlib.Core.List.{_∷_};
+ghost use Prim.Native.Nat.{_+_, _≤_, _<_};
+ghost use lib.ListN.{length};
+ghost use Rattle.decide.specs.Refusal.{firstThat};
+ghost use Rattle.cube.specs.Cube.{volume};
+ghost use Rattle.sheet.specs.Line.{inLine};
+ghost use Rattle.sheet_text.specs.Puts.{Puts};
+ghost use Rattle.sheet_text.specs.Writes.{Writes};
+ghost use Rattle.totals.specs.Totals.{totals};
+ghost use Rattle.totals.specs.Call.{totalsOrder};
+ghost use Rattle.cube_totals.specs.Table.{numbersOf};
+use crate::tally::tally;
+use sheet_text::Written;
+use sheet_text::text::put_columns;
+
+// Writes the totals of a cube: a line for each mark from 1 to 255 that some cell holds, then that of mark 0. Refused: 11,
+// 21, 22.
+pub fn write_totals(side: u32, cube: &[u8], text: &mut [u8]) -> Written
+    ensures { λ r. ⌜ Writes (firstThat (totalsOrder side (length (now (cube .entry))) (length (now (text .entry)))))
+        (totals side (now (cube .entry))) (now (text .entry)) (now (text .exit)) r ⌝ }
+{
+    let refusal = sheet_text::refusal(side, cube.len(), text.len() < 13056);
+    if refusal != 0 {
+        return Written::Refused(refusal);
+    }
+    Written::Bytes(put_totals(side, cube, text))
+}
+
+// Answers the number of bytes.
+fn put_totals(side: u32, cube: &[u8], text: &mut [u8]) -> usize
+    requires { ⌜ (2 ≤ side) × (side ≤ 64) ⌝ }
+    requires { ⌜ length (now cube) ≡ volume side ⌝ }
+    requires { ⌜ 13056 ≤ length (now text) ⌝ }
+    ensures { λ r. ⌜ Puts (totals side (now (cube .entry))) 0 (now (text .entry)) (now (text .exit)) r ⌝ }
+{
+    let mut table = [0u32; 1024];
+    tally(side, cube, &mut table);
+    let mut at = 0;
+    let mut mark = 1;
+    while mark < 256 {
+        if table[4 * mark] != 0 {
+            put_line(mark, &table, text, at);
+            at += 51;
+        }
+        mark += 1;
+    }
+    put_line(0, &table, text, at);
+    at + 51
+}
+
+// The line of a mark, with its numbers in the table.
+fn put_line(mark: usize, table: &[u32], text: &mut [u8], at: usize)
+    requires { ⌜ mark < 256 ⌝ }
+    requires { ⌜ length (now table) ≡ 1024 ⌝ }
+    requires { ⌜ at + 51 ≤ length (now text) ⌝ }
+    ensures { λ _. ⌜ Puts (inLine 10 (mark ∷ numbersOf (now (table .entry)) mark)) at
+        (now (text .entry)) (now (text .exit)) (at + 51) ⌝ }
+{
+    let first = 4 * mark;
+    put_columns(mark as u32, 10, text, at);
+    put_columns(table[first], 10, text, at + 10);
+    put_columns(table[first + 1], 10, text, at + 20);
+    put_columns(table[first + 2], 10, text, at + 30);
+    put_columns(table[first + 3], 10, text, at + 40);
+    text[at + 50] = b'\n';
+}

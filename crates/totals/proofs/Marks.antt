@@ -3,9 +3,9 @@
 use mathlib.Core.Path.{_≡_, refl, sym, _∙_, ap, subst}
 use mathlib.Core.Logic.{_↔_, _⊎_, inl, inr, ⊎-elim}
 use mathlib.Core.Bool.{Bool, true, false, cond, _||_}
-use mathlib.Core.List.{List, [], _∷_, _++_, List·Memᴰ, List·Memᴰ·head, List·Memᴰ·tail, List·Memᴰ·not-nil, List·Memᴰ·cases-cons}
+use mathlib.Core.List.{List, [], _∷_, _++_, append-assoc, List·Memᴰ, List·Memᴰ·head, List·Memᴰ·tail, List·Memᴰ·not-nil, List·Memᴰ·cases-cons}
 use Prim.Native.Nat.{ℕ, zero, suc, _+_, _≤_, _<_}
-use native.Mathlib.Nat.{zero-add}
+use native.Mathlib.Nat.{zero-add, add-zero, add-suc, suc-add}
 use native.Mathlib.Omega.{arith}
 use lib.Dec.{T, eqb}
 use lib.ListN.{length, getD}
@@ -37,6 +37,14 @@ module _ (mark k : ℕ) (cube : List ℕ) where
 pub by-held : (cube : List ℕ) (mark : ℕ) → (isHeld cube mark ≡ true) ⊎ (isHeld cube mark ≡ false)
 by-held cube mark =
     ⊎-elim (λ t. inl (true-of (isHeld cube mark) t)) (λ f. inr (false-of (isHeld cube mark) f)) (decided (isHeld cube mark))
+
+-- One mark more, at the range's end.
+pub held-more : (mark k : ℕ) (cube : List ℕ) →
+    heldFrom mark (suc k) cube ≡ heldFrom mark k cube ++ heldFrom (mark + k) 1 cube
+unfolding heldFrom
+held-more mark zero cube = rw add-zero
+held-more mark (suc k) cube =
+    rw (held-more (suc mark) k cube, add-suc, ← suc-add, append-assoc (cond (isHeld cube mark) (mark ∷ []) []))
 
 -- m is one of so many marks from a mark on, and some cell holds it.
 abbrev pub HeldIn : (mark many : ℕ) (cube : List ℕ) (m : ℕ) → Type 0

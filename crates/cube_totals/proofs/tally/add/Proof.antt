@@ -48,9 +48,10 @@ add-at-requires-2 : tie.Need-add-at-requires-2
 add-at-requires-2 c κs =
     let k = c .before .before .before in
     let b = first k in
-    let r = k .before .before .wide in
-    (omega (arith, b .size, r .ensures .1),
-    omega (arith, b .small (4 * r .result + 1), k .before .before .before .before .pre .1 .0))
+    let r = k .before .before .wide in (
+      omega (arith, b .size, r .ensures .1),
+      omega (arith, b .small (4 * r .result + 1), k .before .before .before .before .pre .1 .0),
+    )
 
 add-add-at-2 : tie.Need-add-add-at-2
 add-add-at-2 c = search needs
@@ -59,9 +60,10 @@ add-at-requires-3 : tie.Need-add-at-requires-3
 add-at-requires-3 c κs =
     let b = second (c .before .before .before) in
     let k = c .before .before .before .before .before .before .before in
-    let r = k .before .before .wide in
-    (omega (arith, b .size, r .ensures .1),
-    omega (arith, b .small (4 * r .result + 2), k .before .before .before .before .pre .1 .1))
+    let r = k .before .before .wide in (
+      omega (arith, b .size, r .ensures .1),
+      omega (arith, b .small (4 * r .result + 2), k .before .before .before .before .pre .1 .1),
+    )
 
 add-add-at-3 : tie.Need-add-add-at-3
 add-add-at-3 c = search needs
@@ -70,9 +72,10 @@ add-at-requires-4 : tie.Need-add-at-requires-4
 add-at-requires-4 c κs =
     let b = third (c .before .before .before) in
     let k = c .before .before .before .before .before .before .before .before .before .before .before in
-    let r = k .before .before .wide in
-    (omega (arith, b .size, r .ensures .1),
-    omega (arith, b .small (4 * r .result + 3), k .before .before .before .before .pre .1 .2))
+    let r = k .before .before .wide in (
+      omega (arith, b .size, r .ensures .1),
+      omega (arith, b .small (4 * r .result + 3), k .before .before .before .before .pre .1 .2),
+    )
 
 same-length : tie.Need-same-length
 same-length c = search needs

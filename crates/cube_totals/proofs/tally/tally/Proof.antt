@@ -54,7 +54,7 @@ add-requires c κs =
     let i = l .loop .inv in
     let z = z-in i (omega (arith, c .before .before .loop-test .taken, s .pre .1 .0)) in (
       table-below (s .args .side) (take (l .loop .p) (now (s .args .cube))) (s .pre .0 .1)
-      (omega (arith, length-take (l .loop .p) (now (s .args .cube)), s .pre .1 .0)) (i .tallied),
+          (omega (arith, length-take (l .loop .p) (now (s .args .cube)), s .pre .1 .0)) (i .tallied),
       (omega (arith, i .x-in, s .pre .0), omega (arith, i .y-in, s .pre .0), omega (arith, z, s .pre .0)),
     )
 
