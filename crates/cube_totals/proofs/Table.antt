@@ -9,19 +9,21 @@ use native.Mathlib.Nat.{add-zero, zero-add, suc-add, add-suc, mul-le-mul}
 use native.Mathlib.Numerals.{add-one, add-two, add-three}
 use native.Mathlib.Omega.{arith}
 use lib.Dec.{T, eqb, ltb}
-use lib.ListN.{length, getD, set, take, replicate, length-set, length-take, length-replicate, getD-replicate, List·getD-eq-default}
-use lib.Seq.{take-suc, length-take-le, getD-set-same, getD-set-other}
+use lib.ListN.{length, getD, set, take, drop, replicate, length-set, length-drop, length-replicate, getD-replicate}
+use lib.ListN.{List·getD-eq-default}
+use lib.Seq.{take-suc, take-take, length-take-le, getD-take, getD-drop, getD-set-same, getD-set-other}
 use Rattle.decide.proofs.Truth.{decided, true-of, false-of, equal, less, not-less}
 use Rattle.cube.specs.Cube.{Axis, x-axis, y-axis, z-axis, volume, cellAt}
 use Rattle.cube.proofs.Places.{x-of, y-of, z-of, cell-at-inside}
 use Rattle.totals.specs.Totals.{sumOver}
-use Rattle.totals.specs.Sums.{sumFrom}
+use Rattle.totals.specs.Sums.{sumFrom, Bytes}
 use Rattle.totals.proofs.Ranges.{sum-bounded}
 use Rattle.totals.proofs.Sums.{sum-more}
 use Rattle.totals.proofs.Numbers.{sum-at-most}
 use Rattle.cube_totals.specs.declared.tally.Cell.{Cell}
-use Rattle.cube_totals.specs.Table.{four, adds, Table, plus, plusAll, added, Below}
-use Rattle.cube_totals.specs.Next.{byteOf}
+use Rattle.cube_totals.specs.declared.tally.Row.{Row}
+use Rattle.cube_totals.specs.Table.{four, adds, Table, plus, plusAll, added, addedRow, Below}
+use Rattle.cube_totals.specs.Next.{rowNumber}
 
 -- A number more at one place changes that place alone.
 module _ (t : List ℕ) (i v : ℕ) where
@@ -40,6 +42,9 @@ below-plus {most} {t} i v l small b = record {
       (λ f. rw (plus-elsewhere t i v j (λ e. f (equal j i .1 e))) (omega (arith, b .small j)))
       (decided (eqb j i));
 }
+
+pub below-more : {most : ℕ} {t : List ℕ} (more : ℕ) → most ≤ more → Below most t → Below more t
+below-more more l b = record { size = b .size; small = λ i. omega (arith, b .small i) }
 
 -- Numbers side by side change their places alone.
 pub length-plus-all : (t : List ℕ) (i : ℕ) (vs : List ℕ) → length (plusAll t i vs) ≡ length t
@@ -92,6 +97,34 @@ added-at b m k c t size l h =
     (decided (ltb m b))))
     (decided (eqb b m))
 
+-- A cell raises the bound by at most four times 64.
+pub below-added : {most : ℕ} {t : List ℕ} (b : ℕ) (c : Cell) → b < 256 → c .x ≤ 64 → c .y ≤ 64 → c .z ≤ 64 → Below most t →
+    Below (most + 256) (added b c t)
+unfolding plusAll
+below-added {most} {t} b c l x y z below =
+    let four-more : most + 64 + 64 + 64 + 64 ≡ most + 256 = omega arith in
+    rw (← four-more)
+    (below-plus (suc (suc (suc (4 * b)))) (c .z) (omega arith) z
+    (below-plus (suc (suc (4 * b))) (c .y) (omega arith) y
+    (below-plus (suc (4 * b)) (c .x) (omega arith) x (below-plus (4 * b) 1 (omega arith) (omega arith) below))))
+
+-- The next cell of a row.
+pub row-more : (marks : List ℕ) (x : ℕ) (r : Row) (t : List ℕ) (m : ℕ) →
+    addedRow (marks ++ m ∷ []) x r t ≡ added m (record { x = x + length marks; y = r .y; z = r .z }) (addedRow marks x r t)
+unfolding addedRow
+row-more [] x r t m = rw add-zero
+row-more (a ∷ marks) x r t m =
+    row-more marks (suc x) r (added a (record { x = x; y = r .y; z = r .z }) t) m ∙ rw (suc-add, ← add-suc)
+
+pub row-next : (marks : List ℕ) (i : ℕ) (r : Row) (t : List ℕ) → i < length marks →
+    addedRow (take (suc i) marks) 0 r t ≡
+    added (getD marks i 0) (record { x = i; y = r .y; z = r .z }) (addedRow (take i marks) 0 r t)
+row-next marks i r t l =
+    rw (take-suc marks i 0 l)
+    (row-more (take i marks) 0 r t (getD marks i 0) ∙
+    ap (λ x. added (getD marks i 0) (record { x = x; y = r .y; z = r .z }) (addedRow (take i marks) 0 r t))
+    (zero-add _ ∙ length-take-le i marks (omega arith)))
+
 -- The cleared table is that of no bytes.
 pub none-yet : (S : ℕ) → Table S [] (replicate 1024 0)
 unfolding sumOver
@@ -100,7 +133,7 @@ none-yet S = record {
   holds = λ m k l h. getD-replicate {A = ℕ} 1024 (4 * m + k) 0 0 (omega arith);
 }
 
-module _ (S : ℕ) (cube : List ℕ) (p : ℕ) (c : Cell) (x-in : c .x < S) (y-in : c .y < S) (stands : p ≡ byteOf S c) where
+module _ (S : ℕ) (cube : List ℕ) (p : ℕ) (c : Cell) (x-in : c .x < S) (y-in : c .y < S) (stands : p ≡ c .x + S * (c .y + S * c .z)) where
   -- The coordinates that are added are those of the byte.
   coordinates : (k : ℕ) → getD (four (c .x) (c .y) (c .z)) k 0 ≡ adds S k p
   coordinates k =
@@ -111,7 +144,7 @@ module _ (S : ℕ) (cube : List ℕ) (p : ℕ) (c : Cell) (x-in : c .x < S) (y-i
       ap (λ l. getD l k 0) same
 
   -- One byte more.
-  pub one-more : {t : List ℕ} → p < length cube → getD cube p 0 < 256 → Table S (take p cube) t →
+  one-more : {t : List ℕ} → p < length cube → getD cube p 0 < 256 → Table S (take p cube) t →
       Table S (take (suc p) cube) (added (getD cube p 0) c t)
   one-more {t} l byte table = record {
     size = length-plus-all t _ _ ∙ table .size;
@@ -124,6 +157,28 @@ module _ (S : ℕ) (cube : List ℕ) (p : ℕ) (c : Cell) (x-in : c .x < S) (y-i
         sum-more (adds S k) m 0 (take p cube) (getD cube p 0) ∙
         ap (λ q. sumOver (adds S k) m 0 (take p cube) + cond (eqb (getD cube p 0) m) (adds S k q) 0) here);
   }
+
+-- A row more: cell by cell.
+module _ (S : ℕ) (cube : List ℕ) (bytes : Bytes cube) (p : ℕ) (r : Row) (y-in : r .y < S)
+    (stands : p ≡ S * rowNumber S r) (inside : p + S ≤ length cube) where
+  abbrev marks : List ℕ
+  marks = take S (drop p cube)
+
+  cells : (i : ℕ) {t : List ℕ} → i ≤ S → Table S (take p cube) t → Table S (take (p + i) cube) (addedRow (take i marks) 0 r t)
+  unfolding addedRow
+  cells zero l table = rw add-zero table
+  cells (suc i) {t} l table =
+      let size : length marks ≡ S = length-take-le S (drop p cube) (omega (arith, length-drop p cube)) in
+      let mark : getD marks i 0 ≡ getD cube (p + i) 0 = getD-take S (drop p cube) i 0 (omega arith) ∙ getD-drop p cube i 0 in
+      let more : p + i < length cube = omega arith in
+      rw (add-suc, row-next marks i r t (omega (arith, size)), mark)
+      (one-more S cube (p + i) (record { x = i; y = r .y; z = r .z }) (omega arith) y-in (omega (arith, stands)) more
+      (bytes (p + i) more) (cells i (omega arith) table))
+
+  pub row-added : {t : List ℕ} → Table S (take p cube) t → Table S (take (p + S) cube) (addedRow marks 0 r t)
+  row-added {t} table =
+      let all : take S marks ≡ marks = take-take S S (drop p cube) (omega arith) in
+      rw all at (cells S (omega arith) table)
 
 -- No number of a cube's table is large.
 module _ (S : ℕ) (cube : List ℕ) (most : S ≤ 64) (size : length cube ≤ volume S) where

@@ -1,13 +1,12 @@
--- From a cell to that at the next byte.
+-- From a row of cells to the row after it.
 use mathlib.Core.Path.{_≡_}
 use Prim.Native.Nat.{ℕ, _+_, _*_, _<_}
-use Rattle.cube_totals.specs.declared.tally.Cell.{Cell}
+use Rattle.cube_totals.specs.declared.tally.Row.{Row}
 
--- The byte at which a cell stands.
-abbrev pub byteOf : (S : ℕ) → Cell → ℕ
-byteOf S c = c .x + S * (c .y + S * c .z)
+-- The number of a row, from 0.
+abbrev pub rowNumber : (S : ℕ) → Row → ℕ
+rowNumber S r = r .y + S * r .z
 
-pub record Next (S : ℕ) (c next : Cell) : Type 0 where
-  pub x-in : next .x < S
+pub record Next (S : ℕ) (r next : Row) : Type 0 where
   pub y-in : next .y < S
-  pub is : byteOf S next ≡ byteOf S c + 1
+  pub is : rowNumber S next ≡ rowNumber S r + 1

@@ -6,6 +6,7 @@ use lib.ListN.{length, getD, set}
 use Rattle.cube.specs.Cube.{x-axis, y-axis, z-axis, cellAt}
 use Rattle.totals.specs.Totals.{sumOver}
 use Rattle.cube_totals.specs.declared.tally.Cell.{Cell}
+use Rattle.cube_totals.specs.declared.tally.Row.{Row}
 
 -- What a cell adds to the four numbers of its mark.
 abbrev pub four : (x y z : ℕ) → List ℕ
@@ -37,6 +38,11 @@ plusAll table i (v ∷ vs) = plusAll (plus table i v) (suc i) vs
 -- A cell more, of the given mark.
 abbrev pub added : (mark : ℕ) (cell : Cell) (table : List ℕ) → List ℕ
 added mark c table = plusAll table (4 * mark) (four (c .x) (c .y) (c .z))
+
+-- The cells of a row more, from x on.
+unfoldable pub addedRow : (marks : List ℕ) (x : ℕ) (row : Row) (table : List ℕ) → List ℕ
+addedRow [] x r table = table
+addedRow (m ∷ ms) x r table = addedRow ms (suc x) r (added m (record { x = x; y = r .y; z = r .z }) table)
 
 -- Every number of the table is at most so much.
 pub record Below (most : ℕ) (table : List ℕ) : Type 0 where

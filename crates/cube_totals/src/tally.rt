@@ -4,35 +4,37 @@ ghost use mathlib.Core.Path.{_≡_};
 ghost use Prim.Native.Nat.{_+_, _^_, _≤_, _<_};
 ghost use lib.ListN.{length, getD, replicate};
 ghost use Rattle.cube.specs.Cube.{volume};
-ghost use Rattle.cube_totals.specs.Table.{Table, Below, plus, added};
+ghost use Rattle.cube_totals.specs.Table.{Table, Below, plus, added, addedRow};
 ghost use Rattle.cube_totals.specs.Next.{Next};
 
-// A cell of the pass.
 struct Cell {
     x: u32,
     y: u32,
     z: u32,
 }
 
-impl Cell {
-    // The cell at the next byte.
+// A row of cells along x.
+struct Row {
+    y: u32,
+    z: u32,
+}
+
+impl Row {
+    // The row after this one.
     fn next(self, side: u32) -> Self
-        requires { ⌜ (self .x < side) × (self .y < side) ⌝ }
-        requires { ⌜ (side ≤ 64) × (self .z ≤ 64) ⌝ }
+        requires { ⌜ (self .y < side) × (self .z < side) ⌝ }
+        requires { ⌜ side ≤ 64 ⌝ }
         ensures { λ r. ⌜ Next side self r ⌝ }
     {
-        let mut x = self.x + 1;
-        let mut y = self.y;
-        let mut z = self.z;
-        if x == side {
-            x = 0;
-            y += 1;
-            if y == side {
-                y = 0;
-                z += 1;
+        let y = self.y + 1;
+        if y == side {
+            Row {
+                y: 0,
+                z: self.z + 1,
             }
+        } else {
+            Row { y, z: self.z }
         }
-        Cell { x, y, z }
     }
 }
 
@@ -43,18 +45,42 @@ pub(crate) fn tally(side: u32, cube: &[u8], table: &mut [u32])
     requires { ⌜ now table ≡ replicate 1024 0 ⌝ }
     ensures { λ _. ⌜ Table side (now (cube .entry)) (now (table .exit)) ⌝ }
 {
-    let mut cell = Cell { x: 0, y: 0, z: 0 };
+    let s = side as usize;
+    let mut row = Row { y: 0, z: 0 };
     let mut p = 0;
     while p < cube.len() {
-        add(cube[p], cell, table);
-        cell = cell.next(side);
-        p += 1;
+        let end = p + s;
+        add_row(&cube[p..end], row, table);
+        row = row.next(side);
+        p = end;
+    }
+}
+
+// Adds the cells of a row.
+fn add_row(marks: &[u8], row: Row, table: &mut [u32])
+    requires { ⌜ length (now marks) ≤ 64 ⌝ }
+    requires { ⌜ (row .y ≤ 64) × (row .z ≤ 64) ⌝ }
+    requires { ⌜ Below 16777216 (now table) ⌝ }
+    ensures { λ _. ⌜ now (table .exit) ≡ addedRow (now (marks .entry)) 0 row (now (table .entry)) ⌝ }
+{
+    let mut x = 0;
+    while x < marks.len() {
+        add(
+            marks[x],
+            Cell {
+                x: x as u32,
+                y: row.y,
+                z: row.z,
+            },
+            table,
+        );
+        x += 1;
     }
 }
 
 // Adds a cell to the numbers of its mark.
 fn add(mark: u8, cell: Cell, table: &mut [u32])
-    requires { ⌜ Below 16777216 (now table) ⌝ }
+    requires { ⌜ Below 16793600 (now table) ⌝ }
     requires { ⌜ (cell .x ≤ 64) × (cell .y ≤ 64) × (cell .z ≤ 64) ⌝ }
     ensures { λ _. ⌜ now (table .exit) ≡ added mark cell (now (table .entry)) ⌝ }
 {

@@ -1,4 +1,4 @@
-// Listings as text.
+// Listings and totals as text.
 ghost use mathlib.Core.Path.{_≡_};
 ghost use Prim.Native.Nat.{_^_, _<_};
 ghost use lib.IntN.{pos};
@@ -7,6 +7,8 @@ ghost use Rattle.integers.specs.Magnitude.{Within};
 ghost use Rattle.decide.specs.Refusal.{firstThat};
 ghost use Rattle.sheet.specs.Printed.{refusalLine};
 ghost use Rattle.sheet.specs.Part.{part, partOrder, lineOrder};
+ghost use Rattle.totals.specs.Totals.{totals};
+ghost use Rattle.totals.specs.Call.{totalsOrder};
 ghost use Rattle.exports.specs.Text.{SmallWritten, numberOfWritten, WritesSigned};
 use crate::signed::refused;
 use sheet_text::Written;
@@ -23,6 +25,14 @@ pub extern "C" fn gidzkhalu_list_part(
         (part side first count (now (cube .entry))) (now (text .entry)) (now (text .exit)) r ⌝ }
 {
     of_written(sheet_listing::list_part(side, cube, first, count, text))
+}
+
+#[no_mangle]
+pub extern "C" fn gidzkhalu_totals(side: u32, cube: &[u8], text: &mut [u8]) -> i64
+    ensures { λ r. ⌜ WritesSigned (firstThat (totalsOrder side (length (now (cube .entry))) (length (now (text .entry)))))
+        (totals side (now (cube .entry))) (now (text .entry)) (now (text .exit)) r ⌝ }
+{
+    of_written(cube_totals::write_totals(side, cube, text))
 }
 
 #[no_mangle]

@@ -9,20 +9,20 @@ use Rattle.cube_totals.proofs.tally.add.Statement.{statement}
 use Rattle.cube_totals.proofs.tally.add.Tie as tie
 
 -- After each sum the bound is a little higher.
-first : (c : tie.After-add-at) → Below 16777280 (c .add-at .last .1 .0)
+first : (c : tie.After-add-at) → Below 16793664 (c .add-at .last .1 .0)
 first c =
     let i = 4 * c .before .before .wide .result in
     let l : i < 1024 = omega (arith, c .before .before .wide .ensures .1) in
     rw (c .add-at .ensures) (below-plus i 1 l (omega arith) (c .before .before .before .before .pre .0))
 
-second : (c : tie.After-add-at2) → Below 16777344 (c .add-at2 .last .1 .0)
+second : (c : tie.After-add-at2) → Below 16793728 (c .add-at2 .last .1 .0)
 second c =
     let k = c .before .before .before .before in
     let i = 4 * k .before .before .wide .result + 1 in
     let l : i < 1024 = omega (arith, k .before .before .wide .ensures .1) in
     rw (c .add-at2 .ensures) (below-plus i _ l (k .before .before .before .before .pre .1 .0) (first k))
 
-third : (c : tie.After-add-at3) → Below 16777408 (c .add-at3 .last .1 .0)
+third : (c : tie.After-add-at3) → Below 16793792 (c .add-at3 .last .1 .0)
 third c =
     let j = c .before .before .before .before in
     let k = j .before .before .before .before in

@@ -1,0 +1,29 @@
+-- `gidzkhalu_totals` meets its contract: the call, with its number signed.
+use borrow.Author.Needs.{needs}
+use native.Mathlib.Omega.{arith}
+use Rattle.totals.proofs.Lines.{length-totals-at-most}
+use Rattle.exports.proofs.Small.{small-read}
+use Rattle.exports.proofs.Text.{small-written, written-signed}
+use Rattle.exports.proofs.listings.gidzkhalu_totals.Statement.{statement}
+use Rattle.exports.proofs.listings.gidzkhalu_totals.Tie as tie
+
+write-totals-requires : tie.Need-write-totals-requires
+write-totals-requires c κs = search needs
+
+of-written-requires : tie.Need-of-written-requires
+of-written-requires c κs =
+    let w = c .before .before .write-totals in
+    let s = c .before .before .before .before .before .before in
+    small-written _ _ (w .result) (w .ensures .answer)
+    (λ _. omega (arith, length-totals-at-most (s .args .side) (s .args .cube .now)))
+
+same-length : tie.Need-same-length
+same-length c = search needs
+
+returns : tie.Need-returns
+returns c =
+    written-signed (c .before .before .before .write-totals .ensures) (small-read (c .of-written .ensures .0) (c .of-written .ensures .1) .0)
+
+pub gidzkhalu-totals-spec : {M : Type 1} → statement M
+gidzkhalu-totals-spec =
+    tie.close (tie.spec write-totals-requires of-written-requires same-length returns)
