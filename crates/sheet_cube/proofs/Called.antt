@@ -1,4 +1,4 @@
--- What a sheet call leaves and what is printed after it: the cube in the buffer and its listing, or the refusal line.
+-- What a sheet call says of the sheet and leaves in the buffer.
 use mathlib.Core.Path.{_≡_, refl, sym, _∙_, ap, subst}
 use mathlib.Core.Logic.{⊎-elim}
 use mathlib.Core.List.{List, [], _∷_, _++_}
@@ -7,7 +7,7 @@ use native.Mathlib.Nat.{mul-le-mul}
 use native.Mathlib.Omega.{arith}
 use lib.Dec.{eqb, lit≤}
 use borrow.Author.Tests.{ne-eqb, ltb-false}
-use lib.ListN.{length, take, drop, length-take, replicate, length-replicate}
+use lib.ListN.{length, take, drop, replicate, length-replicate}
 use lib.Seq.{take-at, length-take-le}
 use Rattle.decide.specs.Refusal.{firstThat}
 use Rattle.decide.proofs.Refusal.{by-verdict}
@@ -17,7 +17,7 @@ use Rattle.drawing.specs.Drawing.{drawn, inTurn}
 use Rattle.drawing.proofs.Drawn.{length-drawn}
 use Rattle.sheet.specs.Line.{lines, number}
 use Rattle.sheet.specs.Sheet.{Stroke, objectOf, sideOrder, curveOrder, Judged, good, bad, judgeCurves, judge}
-use Rattle.sheet.specs.Printed.{cubeOf, listing, refusalLine, printed, output}
+use Rattle.sheet.specs.Printed.{cubeOf}
 use Rattle.sheet.specs.Call.{judgeCall, Said, drew, refused, said, bufferAfter}
 use Rattle.sheet_cube.specs.declared.Size.{Size}
 use Rattle.sheet_cube.specs.declared.Refusal.{Refusal}
@@ -68,7 +68,8 @@ abbrev isRefused : Said → Type 0
 isRefused (drew S n) = ⊥
 isRefused (refused n k) = Unit
 
-is-bad : (j : Judged) {n k : ℕ} → said j ≡ refused n k → j ≡ bad n k
+-- A sheet that is answered a number and a line is bad, with both.
+pub is-bad : (j : Judged) {n k : ℕ} → said j ≡ refused n k → j ≡ bad n k
 is-bad (good S strokes) e = absurd (subst isRefused (sym e) tt)
 is-bad (bad n k) e = ap (λ s. bad (numberOf s) (lineOf s)) e
 
@@ -110,28 +111,9 @@ module _ {input buffer bufferNow : List ℕ} {r : Answer} (d : DrawsSheet input 
             take-at (cubeOf S (g .strokes)) (drop (volume S) buffer) (volume S) (length-cube S (g .strokes));
       }
 
-  -- Its side, and the room that its cube has.
-  pub side-least : {S n : ℕ} → saidOf r ≡ drew S n → 2 ≤ S
-  side-least e = let a = called-accepted e in good-sheet input (ap said (a .judged)) .side-least
-
+  -- Its side.
   pub side-most : {S n : ℕ} → saidOf r ≡ drew S n → S ≤ 40
   side-most e = let a = called-accepted e in good-sheet input (ap said (a .judged)) .side-most
-
-  pub cube-within : {S n : ℕ} → saidOf r ≡ drew S n → volume S ≤ length bufferNow
-  cube-within {S} e =
-      let a = called-accepted e in
-      omega (arith, ap length (a .cube) ∙ length-cube S (a .strokes), length-take (volume S) bufferNow)
-
-  -- The listing of the cube in the buffer is what is printed of an accepted sheet,
-  pub accepted-prints : {S n : ℕ} → saidOf r ≡ drew S n → listing S (take (volume S) bufferNow) ≡ output input
-  unfolding output
-  accepted-prints {S} e = let a = called-accepted e in ap (listing S) (a .cube) ∙ ap printed (sym (a .judged))
-
-  -- and the refusal line of a refused one, whose buffer is good.
-  pub refused-prints : length buffer ≡ 64000 → {n k : ℕ} → saidOf r ≡ refused n k → refusalLine n k ≡ output input
-  unfolding output
-  refused-prints h e =
-      ap printed (sym (is-bad (judgeCall input buffer) (sym (d .answer) ∙ e)) ∙ buffer-good input buffer h)
 
   -- The line of a refused one.
   pub line-most : {n k : ℕ} → saidOf r ≡ refused n k → k ≤ 202

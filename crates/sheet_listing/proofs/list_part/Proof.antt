@@ -1,4 +1,4 @@
--- `list_part` meets its contract: it is refused by the number that is answered, and a part that none refuses is written.
+-- `list_part` meets its contract: the number that is answered refuses it, and a part that none refuses is written.
 use borrow.Author.Needs.{needs}
 use borrow.Author.Tests.{ltb-false}
 use mathlib.Core.Path.{_≡_}
@@ -18,7 +18,7 @@ use Rattle.sheet_text.proofs.Refusals.{Passes, none-refuses, some-refuses}
 use Rattle.sheet_listing.proofs.list_part.Statement.{statement}
 use Rattle.sheet_listing.proofs.list_part.Tie as tie
 
--- Room for as many lines as places is room for the heading and a line for each.
+-- A text holds no more lines than places exactly where it is too short for the heading and a line for each place.
 same-test : (bytes count : ℕ) → leb (bytes / 21) count ≡ ltb bytes (21 * (count + 1))
 same-test bytes count =
     at-most-agrees (bytes / 21) count (suc bytes) (21 * (count + 1)) (λ h. omega arith) (λ h. omega arith)
@@ -29,7 +29,8 @@ refusal-requires c κs = search needs
 -- The number answered, by the part's order.
 answered : (c : tie.After-refusal) →
     let a = c .before .before .before .args in
-    firstThat (partOrder (a .side) (a .count) (length (now (a .cube))) (length (now (a .text)))) ≡ numbered (c .refusal .result)
+    firstThat (partOrder (a .side) (a .count) (length (now (a .cube))) (length (now (a .text)))) ≡
+    numbered (c .refusal .result)
 answered c = rw same-test at (c .refusal .ensures)
 
 returns : tie.Need-returns
@@ -40,7 +41,8 @@ module _ (c : tie.Else1) where
   abbrev s : tie.Start
   s = c .before .before .before .before
 
-  passing : Passes (s .args .side) (length (now (s .args .cube))) (ltb (length (now (s .args .text))) (21 * (s .args .count + 1)))
+  passing :
+      Passes (s .args .side) (length (now (s .args .cube))) (ltb (length (now (s .args .text))) (21 * (s .args .count + 1)))
   passing = none-refuses _ _ _ (answered (c .before)) (c .if1 .left)
 
   room : 21 * (s .args .count + 1) ≤ length (now (s .args .text))
@@ -57,7 +59,8 @@ same-length c = search needs
 returns-2 : tie.Need-returns-2
 returns-2 c =
     let e = c .before .before .before .before in
-    writes-accepted (passing e .verdict) (le-trans (length-part-at-most _ _ _ _) (room e)) (c .before .before .put-part .ensures)
+    writes-accepted (passing e .verdict) (le-trans (length-part-at-most _ _ _ _) (room e))
+    (c .before .before .put-part .ensures)
 
 pub list-part-spec : {M : Type 1} → statement M
 list-part-spec =

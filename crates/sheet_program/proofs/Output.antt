@@ -1,42 +1,19 @@
 -- What is written, in turn, is the output of the input.
-use mathlib.Core.Path.{_≡_, refl, sym, _∙_, ap, subst}
+use mathlib.Core.Path.{_≡_, refl, sym, _∙_, ap}
 use mathlib.Core.List.{List, [], _∷_, _++_}
 use Prim.Native.Nat.{ℕ, _-_, _+_, _*_, _≤_, _<_}
 use native.Mathlib.Nat.{mul-add, mul-pos}
 use native.Mathlib.Omega.{arith}
-use lib.ListN.{length, take, drop, length-append}
-use lib.Seq.{take-append-seam, length-take-le}
+use lib.ListN.{length, take}
+use lib.Seq.{length-take-le}
 use borrow.Author.Tests.{ne-eqb}
-use Rattle.sheet.specs.Printed.{cellLines, listing, refusalLine, output}
-use Rattle.sheet.proofs.Parts.{part-append, part-all}
-use Rattle.decide.specs.Refusal.{Verdict}
 use Rattle.cube.specs.Cube.{volume}
+use Rattle.sheet.specs.Printed.{cellLines, listing, printed, output}
 use Rattle.sheet.specs.Part.{part}
-use Rattle.sheet.specs.Call.{drew, refused}
-use Rattle.sheet_cube.specs.declared.Answer.{Answer}
-use Rattle.sheet_cube.specs.Answer.{saidOf, DrawsSheet}
-use Rattle.sheet_cube.proofs.Called.{side-least, cube-within, accepted-prints, refused-prints}
-use Rattle.sheet_text.specs.declared.Written.{Written}
-use Rattle.sheet_text.specs.declared.Written.the-variants.{Bytes}
-use Rattle.sheet_text.specs.Writes.{Writes, textAfter}
+use Rattle.sheet.proofs.Parts.{part-append, part-all}
 use Rattle.sheet_listing.specs.declared.Planes.{Planes}
 use Rattle.sheet_listing.specs.ByPlane.{ListsPlanes}
-
--- What a call wrote from the front of a text.
-pub record Front (bytes after : List ℕ) (k : ℕ) : Type 0 where
-  pub holds : take k after ≡ bytes
-  pub within : k ≤ length after
-
-pub front : {v : Verdict} {bytes text after : List ℕ} {r : Written} {k : ℕ} → Writes v bytes text after r → r ≡ Bytes k →
-    Front bytes after k
-front {v} {bytes} {text} {after} {k = k} written e =
-    let w : Writes v bytes text after (Bytes k) = subst (Writes v bytes text after) e written in
-    let l : after ≡ bytes ++ drop (length bytes) text = w .leaves ∙ ap (λ u. textAfter u bytes text) (w .answer .0) in
-    let n : k ≡ length bytes = w .answer .1 in
-    record {
-      holds = rw (l, n) (take-append-seam bytes (drop (length bytes) text));
-      within = rw (l, n, length-append bytes (drop (length bytes) text)) (omega arith);
-    }
+use Rattle.sheet_program.proofs.Drawn.{Drawn, Refused}
 
 -- Planes listed in turn from plane z to the last, one write for some planes each.
 pub data InTurn (S : ℕ) (cube : List ℕ) : (z : ℕ) (writes : List (List ℕ)) → Type 0 where
@@ -93,17 +70,15 @@ module _ (S : ℕ) (positive : 0 < S) (cube : List ℕ) where
       in-turn w ∙ ap (λ p. part S p (S * S * (S - 0)) cube) zero ∙
       part-all S (S * S * (S - 0)) cube (omega (arith, whole))
 
--- After an accepted call, planes of the buffer's cube listed in turn are the output of the input.
-pub accepted-output : {input buffer bufferNow : List ℕ} {r : Answer} → DrawsSheet input buffer bufferNow r →
-    {S n : ℕ} → saidOf r ≡ drew S n → {writes : List (List ℕ)} → InTurn S (take (volume S) bufferNow) 0 writes →
-    written writes ≡ output input
-accepted-output {bufferNow = bufferNow} d {S} e w =
-    listing-in-turn S (omega (arith, side-least d e)) (take (volume S) bufferNow)
-    (length-take-le (volume S) bufferNow (cube-within d e)) w ∙ accepted-prints d e
+-- Planes of a drawn sheet's cube listed in turn are the output of the input,
+pub accepted-output : {input bufferNow : List ℕ} {S : ℕ} → Drawn input bufferNow S → {writes : List (List ℕ)} →
+    InTurn S (take (volume S) bufferNow) 0 writes → written writes ≡ output input
+unfolding output
+accepted-output {bufferNow = bufferNow} {S} d w =
+    listing-in-turn S (omega (arith, d .side-least)) (take (volume S) bufferNow)
+    (length-take-le (volume S) bufferNow (d .within)) w ∙ ap (listing S) (d .cube) ∙ ap printed (sym (d .judged))
 
--- After a refused call that lends 64000 bytes, the text that the refusal line's function leaves begins with the output.
-pub refused-output : {input buffer bufferNow : List ℕ} {r : Answer} → DrawsSheet input buffer bufferNow r →
-    length buffer ≡ 64000 → {n k : ℕ} → saidOf r ≡ refused n k →
-    {v : Verdict} {text after : List ℕ} {a : Written} {bytes : ℕ} →
-    Writes v (refusalLine n k) text after a → a ≡ Bytes bytes → take bytes after ≡ output input
-refused-output d h e w b = front w b .holds ∙ refused-prints d h e
+-- and so is a refused sheet's line.
+pub refused-output : {input textNow : List ℕ} {bytes : ℕ} → Refused input textNow bytes → take bytes textNow ≡ output input
+unfolding output
+refused-output r = r .holds ∙ ap printed (sym (r .judged))

@@ -1,10 +1,10 @@
--- `main` is safe and ends: what is read lies within the input's buffer.
+-- `run` is safe and ends: what is read lies within the input's buffer.
 use borrow.Author.Needs.{needs}
 use mathlib.Core.Path.{sym}
 use native.Mathlib.Omega.{arith}
 use lib.Seq.{length-take-le}
-use Rattle.stroke_sheet.proofs.main.Statement.{statement}
-use Rattle.stroke_sheet.proofs.main.Tie as tie
+use Rattle.sheet_program.proofs.run.Statement.{statement}
+use Rattle.sheet_program.proofs.run.Tie as tie
 
 slice-aggregate-fill : tie.Need-slice-aggregate-fill
 slice-aggregate-fill c = search needs
@@ -12,11 +12,11 @@ slice-aggregate-fill c = search needs
 fill-requires : tie.Need-fill-requires
 fill-requires c κs = search needs
 
-slice-aggregate-write-all : tie.Need-slice-aggregate-write-all
-slice-aggregate-write-all c = search needs
+slice-aggregate-tell : tie.Need-slice-aggregate-tell
+slice-aggregate-tell c = search needs
 
-write-all-requires : tie.Need-write-all-requires
-write-all-requires c κs = search needs
+tell-requires : tie.Need-tell-requires
+tell-requires c κs = search needs
 
 returns : tie.Need-returns
 returns c = search needs
@@ -31,11 +31,11 @@ slice-aggregate-print-sheet c =
 print-sheet-requires : tie.Need-print-sheet-requires
 print-sheet-requires c κs = search needs
 
-slice-aggregate-write-all-2 : tie.Need-slice-aggregate-write-all-2
-slice-aggregate-write-all-2 c = search needs
+slice-aggregate-tell-2 : tie.Need-slice-aggregate-tell-2
+slice-aggregate-tell-2 c = search needs
 
-write-all-requires-2 : tie.Need-write-all-requires-2
-write-all-requires-2 c κs = search needs
+tell-requires-2 : tie.Need-tell-requires-2
+tell-requires-2 c κs = search needs
 
 returns-2 : tie.Need-returns-2
 returns-2 c = search needs
@@ -43,19 +43,19 @@ returns-2 c = search needs
 returns-3 : tie.Need-returns-3
 returns-3 c = search needs
 
-pub main-spec : {M : Type 1} → statement M
-main-spec =
+pub run-spec : {M : Type 1} → statement M
+run-spec =
     tie.close
     (tie.spec
     slice-aggregate-fill
     fill-requires
-    slice-aggregate-write-all
-    write-all-requires
+    slice-aggregate-tell
+    tell-requires
     returns
     array-share-prefix-input
     slice-aggregate-print-sheet
     print-sheet-requires
-    slice-aggregate-write-all-2
-    write-all-requires-2
+    slice-aggregate-tell-2
+    tell-requires-2
     returns-2
     returns-3)

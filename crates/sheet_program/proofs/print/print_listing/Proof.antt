@@ -5,8 +5,8 @@ use Prim.Native.Nat.{_-_, _≤_}
 use native.Mathlib.Omega.{arith}
 use lib.ListN.{length}
 use lib.Seq.{length-take-le}
-use Rattle.stroke_sheet.proofs.print_listing.Statement.{statement}
-use Rattle.stroke_sheet.proofs.print_listing.Tie as tie
+use Rattle.sheet_program.proofs.print.print_listing.Statement.{statement}
+use Rattle.sheet_program.proofs.print.print_listing.Tie as tie
 
 abbrev Inv-loop : tie.InvT-loop
 Inv-loop side cube text₀ planes z₀ text z = (z ≤ side) × (length text ≡ length text₀)

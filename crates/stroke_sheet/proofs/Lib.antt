@@ -1,2 +1,0 @@
--- `Output`: what is written, in turn, is the output of the input.
-pub mod Output
