@@ -4,4 +4,5 @@
 // the record of a number is found without a search.
 pub mod answer;
 pub mod block;
+pub mod input;
 pub mod record;

@@ -22,6 +22,8 @@ mod printed;
 ghost use mathlib.Core.Path.{_≡_};
 ghost use lib.ListN.{length};
 use cases::block::Progress;
+use cases::input::read_bytes;
+use cases::input::read_heading;
 use cases::record::number;
 use digest::Digest;
 use digest::eight;
@@ -47,8 +49,7 @@ fn answer_next(buffer: &mut [u8]) -> Progress {
     answer_input(&mut heading, &mut sheet, &mut text, buffer)
 }
 
-// Reads a case and writes its answer. A heading of another form is a failure, since nothing says where the next case
-// begins.
+// Reads a case and writes its answer.
 fn answer_input(
     heading: &mut [u8],
     sheet: &mut [u8],
@@ -57,17 +58,11 @@ fn answer_input(
 ) -> Progress
     requires { ⌜ (length (now heading) ≡ 46) × (length (now text) ≡ 33621) ⌝ }
 {
-    let input = reading::fill(libc::STDIN_FILENO, heading);
-    if input.failed {
-        return Progress::Failed;
+    let read = read_heading(heading, b'S');
+    match read {
+        Progress::More => answer_case(heading, sheet, text, buffer),
+        _ => read,
     }
-    if input.count == 0 {
-        return Progress::Ended;
-    }
-    if input.count < 46 || !cases::record::is_case(heading) || heading[0] != b'S' {
-        return Progress::Failed;
-    }
-    answer_case(heading, sheet, text, buffer)
 }
 
 // Answers the case of a heading. One that asks for more bytes than there are is a failure.
@@ -89,14 +84,11 @@ fn answer_case(heading: &[u8], sheet: &mut [u8], text: &mut [u8], buffer: &mut [
 fn answer_lent(heading: &[u8], sheet: &mut [u8], text: &mut [u8], lent: &mut [u8]) -> Progress
     requires { ⌜ (length (now heading) ≡ 46) × (length (now text) ≡ 33621) ⌝ }
 {
-    let input = reading::fill(libc::STDIN_FILENO, sheet);
-    if input.failed {
-        return Progress::Failed;
+    let read = read_bytes(sheet);
+    match read {
+        Progress::More => answer_sheet(heading, sheet, text, lent),
+        _ => read,
     }
-    if input.count < sheet.len() {
-        return Progress::Failed;
-    }
-    answer_sheet(heading, sheet, text, lent)
 }
 
 // Fills the lent bytes, draws the sheet and writes the answer.
