@@ -12,8 +12,10 @@ ghost use Rattle.sheet_text.specs.Puts.{Puts};
 ghost use Rattle.sheet_text.specs.Writes.{Writes};
 ghost use Rattle.totals.specs.Totals.{totals};
 ghost use Rattle.totals.specs.Call.{totalsOrder};
-ghost use Rattle.cube_totals.specs.Table.{numbersOf};
+ghost use Rattle.cube_totals.specs.Table.{fourOf};
+use crate::tally::Total;
 use crate::tally::tally;
+use crate::tally::total_of;
 use sheet_text::Written;
 use sheet_text::text::put_columns;
 
@@ -37,34 +39,32 @@ fn put_totals(side: u32, cube: &[u8], text: &mut [u8]) -> usize
     requires { ⌜ 13056 ≤ length (now text) ⌝ }
     ensures { λ r. ⌜ Puts (totals side (now (cube .entry))) 0 (now (text .entry)) (now (text .exit)) r ⌝ }
 {
-    let mut table = [0u32; 1024];
+    let mut table = [0u64; 1024];
     tally(side, cube, &mut table);
     let mut at = 0;
     let mut mark = 1;
     while mark < 256 {
-        if table[4 * mark] != 0 {
-            put_line(mark, &table, text, at);
+        let held = total_of(&table, mark);
+        if held.count != 0 {
+            put_line(mark, held, text, at);
             at += 51;
         }
         mark += 1;
     }
-    put_line(0, &table, text, at);
+    put_line(0, total_of(&table, 0), text, at);
     at + 51
 }
 
-// The line of a mark, with its numbers in the table.
-fn put_line(mark: usize, table: &[u32], text: &mut [u8], at: usize)
+// The line of a mark.
+fn put_line(mark: usize, held: Total, text: &mut [u8], at: usize)
     requires { ⌜ mark < 256 ⌝ }
-    requires { ⌜ length (now table) ≡ 1024 ⌝ }
     requires { ⌜ at + 51 ≤ length (now text) ⌝ }
-    ensures { λ _. ⌜ Puts (inLine 10 (mark ∷ numbersOf (now (table .entry)) mark)) at
-        (now (text .entry)) (now (text .exit)) (at + 51) ⌝ }
+    ensures { λ _. ⌜ Puts (inLine 10 (mark ∷ fourOf held)) at (now (text .entry)) (now (text .exit)) (at + 51) ⌝ }
 {
-    let first = 4 * mark;
     put_columns(mark as u32, 10, text, at);
-    put_columns(table[first], 10, text, at + 10);
-    put_columns(table[first + 1], 10, text, at + 20);
-    put_columns(table[first + 2], 10, text, at + 30);
-    put_columns(table[first + 3], 10, text, at + 40);
+    put_columns(held.count, 10, text, at + 10);
+    put_columns(held.x, 10, text, at + 20);
+    put_columns(held.y, 10, text, at + 30);
+    put_columns(held.z, 10, text, at + 40);
     text[at + 50] = b'\n';
 }

@@ -2,10 +2,10 @@
 -- adds nothing.
 use mathlib.Core.Path.{_≡_, refl, sym, _∙_, ap, ap₂}
 use mathlib.Core.Logic.{⊎-elim}
-use mathlib.Core.Bool.{cond}
+use mathlib.Core.Bool.{Bool, true, false, cond}
 use mathlib.Core.List.{List, [], _∷_, _++_}
 use Prim.Native.Nat.{ℕ, zero, suc, _+_, _-_, _*_, _/_, _≤_, _<_}
-use native.Mathlib.Nat.{zero-add, add-zero, suc-add, add-suc, mul-one}
+use native.Mathlib.Nat.{zero-add, add-zero, suc-add, add-suc, mul-zero, mul-one, mul-add}
 use native.Mathlib.Omega.{arith}
 use lib.Dec.{eqb}
 use lib.ListN.{length}
@@ -22,6 +22,17 @@ pub sum-more : (f : ℕ → ℕ) (mark p : ℕ) (cube : List ℕ) (b : ℕ) →
 unfolding sumOver
 sum-more f mark p [] b = rw (add-zero p, add-zero, zero-add)
 sum-more f mark p (a ∷ cube) b = rw (sum-more f mark (suc p) cube b, suc-add, ← add-suc) (omega arith)
+
+-- Two numbers of each place, one with a factor.
+pub sum-pair : (f g : ℕ → ℕ) (k mark p : ℕ) (cube : List ℕ) →
+    sumOver (λ q. f q + k * g q) mark p cube ≡ sumOver f mark p cube + k * sumOver g mark p cube
+unfolding sumOver
+sum-pair f g k mark p [] = rw mul-zero
+sum-pair f g k mark p (b ∷ cube) = rw (sum-pair f g k mark (suc p) cube, mul-add) (pair (eqb b mark) _ _)
+  where
+    pair : (s : Bool) (a c : ℕ) → cond s (f p + k * g p) 0 + (a + c) ≡ cond s (f p) 0 + a + (k * cond s (g p) 0 + c)
+    pair true a c = omega arith
+    pair false a c = rw mul-zero (omega arith)
 
 -- A byte counts for the mark that it is: not for the marks above it, and among those of a range once.
 module _ (b v : ℕ) where

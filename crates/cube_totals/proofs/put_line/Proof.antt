@@ -7,20 +7,11 @@ use Rattle.sheet_text.proofs.Puts.{puts-append, puts-byte, puts-length}
 use Rattle.cube_totals.proofs.put_line.Statement.{statement}
 use Rattle.cube_totals.proofs.put_line.Tie as tie
 
-mul-first : tie.Need-mul-first
-mul-first c = search needs
-
 cast-put-columns : tie.Need-cast-put-columns
 cast-put-columns c = search needs
 
 put-columns-requires : tie.Need-put-columns-requires
 put-columns-requires c κs = search needs
-
-mul-put-columns : tie.Need-mul-put-columns
-mul-put-columns c = search needs
-
-shared-slice-read-put-columns : tie.Need-shared-slice-read-put-columns
-shared-slice-read-put-columns c = search needs
 
 add-put-columns : tie.Need-add-put-columns
 add-put-columns c = search needs
@@ -31,44 +22,17 @@ put-columns-requires-2 c κs = search needs
 add-put-columns-2 : tie.Need-add-put-columns-2
 add-put-columns-2 c = search needs
 
-mul-put-columns-2 : tie.Need-mul-put-columns-2
-mul-put-columns-2 c = search needs
-
-shared-slice-read-put-columns-2 : tie.Need-shared-slice-read-put-columns-2
-shared-slice-read-put-columns-2 c = search needs
+put-columns-requires-3 : tie.Need-put-columns-requires-3
+put-columns-requires-3 c κs = search needs
 
 add-put-columns-3 : tie.Need-add-put-columns-3
 add-put-columns-3 c = search needs
 
-put-columns-requires-3 : tie.Need-put-columns-requires-3
-put-columns-requires-3 c κs = search needs
-
-add-put-columns-4 : tie.Need-add-put-columns-4
-add-put-columns-4 c = search needs
-
-mul-put-columns-3 : tie.Need-mul-put-columns-3
-mul-put-columns-3 c = search needs
-
-shared-slice-read-put-columns-3 : tie.Need-shared-slice-read-put-columns-3
-shared-slice-read-put-columns-3 c = search needs
-
-add-put-columns-5 : tie.Need-add-put-columns-5
-add-put-columns-5 c = search needs
-
 put-columns-requires-4 : tie.Need-put-columns-requires-4
 put-columns-requires-4 c κs = search needs
 
-add-put-columns-6 : tie.Need-add-put-columns-6
-add-put-columns-6 c = search needs
-
-mul-put-columns-4 : tie.Need-mul-put-columns-4
-mul-put-columns-4 c = search needs
-
-shared-slice-read-put-columns-4 : tie.Need-shared-slice-read-put-columns-4
-shared-slice-read-put-columns-4 c = search needs
-
-add-put-columns-7 : tie.Need-add-put-columns-7
-add-put-columns-7 c = search needs
+add-put-columns-4 : tie.Need-add-put-columns-4
+add-put-columns-4 c = search needs
 
 put-columns-requires-5 : tie.Need-put-columns-requires-5
 put-columns-requires-5 c κs = search needs
@@ -83,10 +47,10 @@ returns : tie.Need-returns
 unfolding inLine
 returns c =
     let z = c .before .before in
-    let y = z .before .before .before .before .before in
-    let x = y .before .before .before .before .before in
-    let count = x .before .before .before .before .before in
-    let mark = count .before .before .before .before .before in
+    let y = z .before .before .before .before in
+    let x = y .before .before .before .before in
+    let count = x .before .before .before .before in
+    let mark = count .before .before .before .before in
     puts-append (mark .put-columns .ensures)
     (puts-append (rw add-assoc at (count .put-columns2 .ensures))
     (puts-append (rw add-assoc at (x .put-columns3 .ensures))
@@ -100,27 +64,15 @@ pub put-line-spec : {M : Type 1} → statement M
 put-line-spec =
     tie.close
     (tie.spec
-    mul-first
     cast-put-columns
     put-columns-requires
-    mul-put-columns
-    shared-slice-read-put-columns
     add-put-columns
     put-columns-requires-2
     add-put-columns-2
-    mul-put-columns-2
-    shared-slice-read-put-columns-2
-    add-put-columns-3
     put-columns-requires-3
-    add-put-columns-4
-    mul-put-columns-3
-    shared-slice-read-put-columns-3
-    add-put-columns-5
+    add-put-columns-3
     put-columns-requires-4
-    add-put-columns-6
-    mul-put-columns-4
-    shared-slice-read-put-columns-4
-    add-put-columns-7
+    add-put-columns-4
     put-columns-requires-5
     add-text
     slice-write-text

@@ -4,7 +4,7 @@ use mathlib.Core.Path.{_≡_, subst}
 use mathlib.Core.Logic.{⊎-elim}
 use mathlib.Core.Bool.{true, false}
 use mathlib.Core.List.{List, _∷_}
-use Prim.Native.Nat.{ℕ, suc, _+_, _-_, _*_, _≤_, _<_}
+use Prim.Native.Nat.{ℕ, suc, _+_, _-_, _*_, _^_, _≤_, _<_}
 use native.Mathlib.Omega.{arith}
 use mir.Syntax.{w64}
 use mir.Val.{Fits}
@@ -14,6 +14,8 @@ use Rattle.sheet.specs.Line.{inLine}
 use Rattle.sheet_text.specs.Puts.{Puts}
 use Rattle.sheet_text.proofs.Puts.{puts-none, puts-append, puts-length}
 use Rattle.totals.specs.Totals.{isHeld, numbers, heldFrom, markLines}
+use Rattle.cube_totals.specs.Table.{Below}
+use Rattle.cube_totals.proofs.Table.{table-below}
 use Rattle.cube_totals.proofs.Lines.{line-is, held-counts, not-held-counts, line-more, no-line, all-lines}
 use Rattle.cube_totals.proofs.put_totals.Statement.{statement}
 use Rattle.cube_totals.proofs.put_totals.Tie as tie
@@ -64,6 +66,12 @@ fits l =
       fits = omega (arith, s .room, s .until, puts-length (s .puts), l .before .before .before .before .before .before .good);
     }
 
+-- The numbers of the table are small.
+small : (c : tie.After-tally Inv-loop μ-loop) → Below (2 ^ 60) (c .tally .last .1 .1 .0)
+small c =
+    let s = c .before .before .before .before in
+    table-below (s .args .side) (now (s .args .cube)) (s .pre .0 .1) (omega (arith, s .pre .1 .0)) (c .tally .ensures)
+
 slice-aggregate-tally : tie.Need-slice-aggregate-tally Inv-loop μ-loop
 slice-aggregate-tally c = search needs
 
@@ -74,24 +82,17 @@ loop-holds : tie.Need-loop-holds Inv-loop μ-loop
 unfolding markLines heldFrom
 loop-holds c = record { below = 0; is = omega arith; until = omega arith; puts = puts-none _ _; room = omega arith }
 
-mul-if1 : tie.Need-mul-if1 Inv-loop μ-loop
-mul-if1 c = search needs
+slice-aggregate-total-of : tie.Need-slice-aggregate-total-of Inv-loop μ-loop
+slice-aggregate-total-of c = search needs
 
-mul-if1-2 : tie.Need-mul-if1-2 Inv-loop μ-loop
-mul-if1-2 c = search needs
-
-array-read-if1 : tie.Need-array-read-if1 Inv-loop μ-loop
-array-read-if1 c = search needs
-
-slice-aggregate-put-line : tie.Need-slice-aggregate-put-line Inv-loop μ-loop
-slice-aggregate-put-line c = search needs
+total-of-requires : tie.Need-total-of-requires Inv-loop μ-loop
+total-of-requires c κs = (small (c .before .before .before .before), c .before .loop-test .taken)
 
 put-line-requires : tie.Need-put-line-requires Inv-loop μ-loop
 put-line-requires c κs = search needs
 
 add-at : tie.Need-add-at Inv-loop μ-loop
-add-at c =
-    fits (c .before .before .before .before .before .before .before)
+add-at c = fits (c .before .before .before .before .before .before .before .before .before)
 
 add-mark : tie.Need-add-mark Inv-loop μ-loop
 add-mark c = search needs
@@ -101,36 +102,47 @@ loop-less c = search needs
 
 loop-again : tie.Need-loop-again Inv-loop μ-loop
 loop-again c =
-    let l = c .before .before in
-    let s = l .loop .inv in
-    let t = l .before .before .tally .ensures in
-    let small = c .before .loop-test .taken in
+    let n = c .before .before in
+    let l = n .before .before .before in
+    let a = l .before .before in
+    let s = a .before .before .before .before in
+    let i = l .loop .inv in
+    let least = n .before .before .loop-test .taken in
     let m = l .loop .mark in
+    let most = s .pre .0 .1 in
+    let size = s .pre .1 .0 in
+    let t = a .tally .ensures in
     ⊎-elim
-    (λ w. rw (w .6, w .7)
-    (held s small (held-counts t m small (w .0 .taken)) (line-is t m small (w .3 .ensures))))
-    (λ w. rw (w .1, w .2) (not-held s small (not-held-counts t m small (w .0 .left))))
+    (λ w. rw (w .5, w .6)
+    (held i least (held-counts t most size m least (n .total-of .ensures) (w .0 .taken))
+    (line-is t most size m least (n .total-of .ensures) (w .2 .ensures))))
+    (λ w. rw (w .1, w .2) (not-held i least (not-held-counts t most size m least (n .total-of .ensures) (w .0 .left))))
     (c .if1 .came)
 
-slice-aggregate-put-line-2 : tie.Need-slice-aggregate-put-line-2 Inv-loop μ-loop
-slice-aggregate-put-line-2 c = search needs
+slice-aggregate-total-of-2 : tie.Need-slice-aggregate-total-of-2 Inv-loop μ-loop
+slice-aggregate-total-of-2 c = search needs
+
+total-of-requires-2 : tie.Need-total-of-requires-2 Inv-loop μ-loop
+total-of-requires-2 c κs = (small (c .before .before .before .before), omega arith)
 
 put-line-requires-2 : tie.Need-put-line-requires-2 Inv-loop μ-loop
 put-line-requires-2 c κs = search needs
 
 add-result : tie.Need-add-result Inv-loop μ-loop
-add-result c = fits (c .before .before .before .before .before .before)
+add-result c = fits (c .before .before .before .before .before .before .before)
 
 returns : tie.Need-returns Inv-loop μ-loop
 returns c =
     let k = c .before .before in
-    let l = k .before .before .before .before in
-    let s = l .loop .inv in
-    let t = l .before .before .tally .ensures in
-    let all : s .below ≡ 255 = omega (arith, s .is, s .until, k .before .before .before .loop-test .left) in
-    rw (← all-lines (l .before .before .before .before .before .before .args .side) _)
-    (puts-append (rw all at (s .puts))
-    (line-is t 0 (omega arith) (k .put-line2 .ensures)))
+    let n = k .before .before in
+    let l = n .before .before .before in
+    let a = l .before .before in
+    let s = a .before .before .before .before in
+    let i = l .loop .inv in
+    let all : i .below ≡ 255 = omega (arith, i .is, i .until, n .before .before .loop-test .left) in
+    rw (← all-lines (s .args .side) _)
+    (puts-append (rw all at (i .puts))
+    (line-is (a .tally .ensures) (s .pre .0 .1) (s .pre .1 .0) 0 (omega arith) (n .total-of2 .ensures) (k .put-line2 .ensures)))
 
 same-length : tie.Need-same-length Inv-loop μ-loop
 same-length c = puts-length (returns c)
@@ -144,16 +156,15 @@ put-totals-spec =
     slice-aggregate-tally
     tally-requires
     loop-holds
-    mul-if1
-    mul-if1-2
-    array-read-if1
-    slice-aggregate-put-line
+    slice-aggregate-total-of
+    total-of-requires
     put-line-requires
     add-at
     add-mark
     loop-less
     loop-again
-    slice-aggregate-put-line-2
+    slice-aggregate-total-of-2
+    total-of-requires-2
     put-line-requires-2
     add-result
     same-length

@@ -2,13 +2,12 @@
 use borrow.Author.Needs.{needs}
 use mathlib.Core.Path.{_≡_, refl, sym, _∙_, ap}
 use mathlib.Core.List.{List}
-use Prim.Native.Nat.{ℕ, suc, _+_, _-_, _*_, _≤_, _<_}
+use Prim.Native.Nat.{ℕ, suc, _+_, _-_, _*_, _^_, _≤_, _<_}
 use native.Mathlib.Numerals.{add-one}
 use native.Mathlib.Omega.{arith}
 use lib.ListN.{length, getD, take}
 use lib.Seq.{take-all}
 use denote.Ref.{now}
-use Rattle.cube_totals.specs.declared.tally.Cell.{Cell}
 use Rattle.cube_totals.specs.declared.tally.Row.{Row}
 use Rattle.cube_totals.specs.Table.{added, addedRow, Below}
 use Rattle.cube_totals.proofs.Table.{below-added, below-more, row-next}
@@ -19,20 +18,19 @@ use Rattle.cube_totals.proofs.tally.add_row.Tie as tie
 record SoFar (marks : List ℕ) (r : Row) (table₀ table : List ℕ) (x : ℕ) : Type 0 where
   pub within : x ≤ length marks
   pub holds : table ≡ addedRow (take x marks) 0 r table₀
-  pub below : Below (16777216 + 256 * x) table
+  pub below : Below (2 ^ 60 + 2 ^ 40 * x) table
 
 -- One cell more.
 next : {marks : List ℕ} {r : Row} {table₀ table after : List ℕ} {x : ℕ} → SoFar marks r table₀ table x → x < length marks →
     length marks ≤ 64 → (r .y ≤ 64) × (r .z ≤ 64) → getD marks x 0 < 256 →
-    after ≡ added (getD marks x 0) (record { x = x; y = r .y; z = r .z }) table → SoFar marks r table₀ after (suc x)
+    after ≡ added (getD marks x 0) x (r .y) (r .z) table → SoFar marks r table₀ after (suc x)
 next {marks} {r} {table₀} {x = x} s l size small byte e =
-    let cell : Cell = record { x = x; y = r .y; z = r .z } in
-    let rise : 16777216 + 256 * x + 256 ≡ 16777216 + 256 * suc x = omega arith in
+    let rise : 2 ^ 60 + 2 ^ 40 * x + 2 ^ 40 ≡ 2 ^ 60 + 2 ^ 40 * suc x = omega arith in
     record {
       within = l;
-      holds = e ∙ ap (added (getD marks x 0) cell) (s .holds) ∙ sym (row-next marks x r table₀ l);
+      holds = e ∙ ap (added (getD marks x 0) x (r .y) (r .z)) (s .holds) ∙ sym (row-next marks x r table₀ l);
       below =
-          rw (e, ← rise) (below-added (getD marks x 0) cell byte (omega arith) (small .0) (small .1) (s .below));
+          rw (e, ← rise) (below-added (getD marks x 0) x (r .y) (r .z) byte (omega arith) (small .0) (small .1) (s .below));
     }
 
 abbrev Inv-loop : tie.InvT-loop
@@ -48,16 +46,13 @@ loop-holds c = record { within = omega arith; holds = refl; below = c .before .b
 shared-slice-read-add : tie.Need-shared-slice-read-add Inv-loop μ-loop
 shared-slice-read-add c = search needs
 
-cast-t10 : tie.Need-cast-t10 Inv-loop μ-loop
-cast-t10 c = search needs
-
 add-requires : tie.Need-add-requires Inv-loop μ-loop
 add-requires c κs =
     let l = c .before .before .before in
     let s = l .before .before .before in
     let i = l .loop .inv in
     let more = c .before .before .loop-test .taken in
-    (below-more 16793600 (omega (arith, more, s .pre .0)) (i .below), (omega (arith, more, s .pre .0), s .pre .1 .0 .0, s .pre .1 .0 .1))
+    (below-more (2 ^ 61) (omega (arith, more, s .pre .0)) (i .below), (omega (arith, more, s .pre .0), s .pre .1 .0 .0, s .pre .1 .0 .1))
 
 add-x : tie.Need-add-x Inv-loop μ-loop
 add-x c = search needs
@@ -91,7 +86,6 @@ add-row-spec =
     μ-loop
     loop-holds
     shared-slice-read-add
-    cast-t10
     add-requires
     add-x
     loop-less
