@@ -61,7 +61,7 @@ pub(crate) fn tally(side: u32, cube: &[u8], table: &mut [u64])
     }
 }
 
-// Adds the cells of a row.
+// Adds the cells of a row, an even and an odd x at a time.
 fn add_row(marks: &[u8], row: Row, table: &mut [u64])
     requires { ⌜ length (now marks) ≤ 64 ⌝ }
     requires { ⌜ (row .y ≤ 64) × (row .z ≤ 64) ⌝ }
@@ -69,9 +69,13 @@ fn add_row(marks: &[u8], row: Row, table: &mut [u64])
     ensures { λ _. ⌜ now (table .exit) ≡ addedRow (now (marks .entry)) 0 row (now (table .entry)) ⌝ }
 {
     let mut x = 0;
-    while x < marks.len() {
+    while x + 1 < marks.len() {
         add(marks[x], x as u64, row.y, row.z, table);
-        x += 1;
+        add(marks[x + 1], (x + 1) as u64, row.y, row.z, table);
+        x += 2;
+    }
+    if x < marks.len() {
+        add(marks[x], x as u64, row.y, row.z, table);
     }
 }
 
