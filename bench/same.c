@@ -293,39 +293,55 @@ static inline float mix(float a, float b)
 
 /* Totals. */
 
-/* The count of a mark's cells and the sums of their coordinates. */
-struct total {
-    uint32_t count, x, y, z;
-};
+/* A mark has two words: the count of its cells and the sum of their x, 32 bits each, and the sums of y and z. Cells of
+   even and of odd x have words of their own, so that along a run of one mark a sum does not wait for the one before it:
+   those of mark m stand at 4 m for even x, at 4 m + 2 for odd x. */
+enum { TABLE = 4 * 256 };
 
-/* One pass, with the coordinates counted along. */
-static void add_cells(uint32_t side, const uint8_t *cube, struct total totals[256])
+static inline void add(uint8_t mark, uint64_t x, uint64_t y, uint64_t z, uint64_t table[TABLE])
 {
-    for (uint32_t z = 0; z < side; z++)
-        for (uint32_t y = 0; y < side; y++)
-            for (uint32_t x = 0; x < side; x++) {
-                struct total *t = &totals[*cube++];
-                t->count++;
-                t->x += x;
-                t->y += y;
-                t->z += z;
-            }
+    uint64_t *words = table + 4 * mark + 2 * (x % 2);
+    words[0] += 1 + (x << 32);
+    words[1] += y + (z << 32);
 }
 
-static inline uint8_t *put_total(uint32_t mark, const struct total *t, uint8_t *text)
+/* The cells of a row, an even and an odd x at a time. */
+static inline void add_row(const uint8_t *marks, uint32_t side, uint64_t y, uint64_t z, uint64_t table[TABLE])
 {
-    put_totals_line(mark, t->count, t->x, t->y, t->z, text);
+    uint64_t x = 0;
+    for (; x + 1 < side; x += 2) {
+        add(marks[x], x, y, z, table);
+        add(marks[x + 1], x + 1, y, z, table);
+    }
+    if (x < side)
+        add(marks[x], x, y, z, table);
+}
+
+static void add_rows(uint32_t side, const uint8_t *cube, uint64_t table[TABLE])
+{
+    for (uint32_t z = 0; z < side; z++)
+        for (uint32_t y = 0; y < side; y++, cube += side)
+            add_row(cube, side, y, z, table);
+}
+
+/* The line of a mark, if it has cells or is 0; answers the byte after it. */
+static inline uint8_t *put_total(uint32_t mark, const uint64_t table[TABLE], uint8_t *text)
+{
+    const uint64_t *words = table + 4 * mark;
+    uint64_t first = words[0] + words[2], second = words[1] + words[3];
+    if ((uint32_t)first == 0 && mark != 0)
+        return text;
+    put_totals_line(mark, (uint32_t)first, (uint32_t)(first >> 32), (uint32_t)second, (uint32_t)(second >> 32), text);
     return text + TOTALS_LINE;
 }
 
 static uint8_t *put_totals(uint32_t side, const uint8_t *cube, uint8_t *text)
 {
-    struct total totals[256] = {{0}};
-    add_cells(side, cube, totals);
+    uint64_t table[TABLE] = {0};
+    add_rows(side, cube, table);
     for (uint32_t mark = 1; mark < 256; mark++)
-        if (totals[mark].count > 0)
-            text = put_total(mark, &totals[mark], text);
-    return put_total(0, &totals[0], text);
+        text = put_total(mark, table, text);
+    return put_total(0, table, text);
 }
 
 #define CALL(name) same_##name

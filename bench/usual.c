@@ -1,6 +1,6 @@
 /* (c) What is usually written instead: float evaluation of the Bernstein form and rounding, no step test; sscanf and
-   sprintf for sheets and totals. Lengths, sides, counts and marks are tried, so that no write goes astray; which number
-   refuses a swatch, a sheet or a cube is left rough. */
+   sprintf for sheets; three nested loops and snprintf for totals. Lengths, sides, counts and marks are tried, so that no
+   write goes astray; which number refuses a swatch, a sheet or a cube is left rough. */
 #include <math.h>
 #include <stdbool.h>
 #include <stddef.h>
@@ -180,7 +180,7 @@ answer usual_list_part(uint32_t side, const uint8_t *cube, size_t cube_len, size
 answer usual_totals(uint32_t side, const uint8_t *cube, size_t cube_len, uint8_t *text, size_t text_len)
 {
     struct {
-        unsigned count, x, y, z;
+        uint32_t count, x, y, z;
     } totals[256] = {{0}};
     char *at = (char *)text;
     if (order_of_text(side, cube_len, text_len < 256 * 51 + 1) != 0)
