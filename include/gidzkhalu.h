@@ -93,14 +93,14 @@ int64_t gidzkhalu_draw_sheet(const uint8_t *input, size_t input_len, uint8_t *bu
 
 /* Writes the part of a cube's listing for count places from byte first on from the front of the text; the part from
    byte 0 begins with the heading. Parts in turn, the first not empty, are the whole listing. The number of bytes, or 11,
-   21, 22. 22: the text is shorter than 21 (count + 1) bytes. Stack: 89 bytes. */
+   21, 22. 22: the text is shorter than 21 (count + 1) bytes. Stack: 104 bytes. */
 int64_t gidzkhalu_list_part(uint32_t side, const uint8_t *cube, size_t cube_len, size_t first, size_t count,
                             uint8_t *text, size_t text_len);
 
 /* Writes the totals of a cube from the front of the text: a line of 51 bytes for each of the marks 1 to 255 that some
    cell holds, in rising order, and one for mark 0, the unmarked cells, whether there are any or not. In a line are the
    mark, the count of its cells and the sums of their x, y and z, each in 10 columns, and a line feed. The number of
-   bytes, or 11, 21, 22. 22: the text is shorter than 256 lines, 13056 bytes. Stack: 4200 bytes. */
+   bytes, or 11, 21, 22. 22: the text is shorter than 256 lines, 13056 bytes. Stack: 8296 bytes. */
 int64_t gidzkhalu_totals(uint32_t side, const uint8_t *cube, size_t cube_len, uint8_t *text, size_t text_len);
 
 /* Writes the line of a refused sheet from the front of the text: 18, or 22 where the text is shorter than that.

@@ -93,7 +93,7 @@ __asm__(".text\n"
         "    movq %r8, %rax\n"
         "    ret\n");
 
-enum { PAGE = 4096, ROOM = 2 * PAGE };
+enum { PAGE = 4096, ROOM = 4 * PAGE };
 
 static const uint8_t PAINT[] = {0x5A, 0xA5};
 static uint8_t *painted; /* the lowest byte of the room */
@@ -719,9 +719,10 @@ static int print_by_answer(void) {
 }
 
 static void print_memset(void) {
+    printf("\n");
     for (int k = 0; k < FUNCTIONS; k++)
         if (figures[k].at_memset > 0)
-            printf("\n%s enters memset with %zu bytes taken: %zu are left to it\n", figures[k].name,
+            printf("%s enters memset with %zu bytes taken: %zu are left to it\n", figures[k].name,
                    figures[k].at_memset, figures[k].most - figures[k].at_memset);
 }
 
