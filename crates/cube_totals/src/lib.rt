@@ -32,8 +32,8 @@ pub fn write_totals(side: u32, cube: &[u8], text: &mut [u8]) -> Written
     Written::Bytes(put_totals(side, cube, text))
 }
 
-// Answers the number of bytes.
-fn put_totals(side: u32, cube: &[u8], text: &mut [u8]) -> usize
+// The same, of a cube and a text that are as they should be. Answers the number of bytes.
+pub fn put_totals(side: u32, cube: &[u8], text: &mut [u8]) -> usize
     requires { ⌜ (2 ≤ side) × (side ≤ 64) ⌝ }
     requires { ⌜ length (now cube) ≡ volume side ⌝ }
     requires { ⌜ 13056 ≤ length (now text) ⌝ }

@@ -6,7 +6,14 @@ ghost use mathlib.Core.Path.{_≡_};
 ghost use Prim.Native.Nat.{_≤_};
 ghost use lib.ListN.{length};
 ghost use Rattle.sheet_program.specs.Draws.{DrawsOrRefuses};
+ghost use Rattle.sheet_program.specs.Totals.{WritesTotals};
 use sheet_cube::Answer;
+
+// What a program prints of a sheet's cube.
+pub enum Report {
+    Listing,
+    Totals,
+}
 
 // The side of the cube that is drawn, or the number of bytes of the refusal line.
 pub enum Drawing {
@@ -30,9 +37,25 @@ pub fn draw_or_refuse(input: &[u8], buffer: &mut [u8], text: &mut [u8]) -> Drawi
     }
 }
 
+// Draws a sheet and writes the totals of its cube, or the line that says why it is refused. Answers the number of bytes.
+pub fn total_sheet(input: &[u8], buffer: &mut [u8], text: &mut [u8]) -> usize
+    requires { ⌜ length (now buffer) ≡ 64000 ⌝ }
+    requires { ⌜ 13056 ≤ length (now text) ⌝ }
+    ensures { λ r. ⌜ WritesTotals (now (input .entry)) (now (buffer .entry)) (now (buffer .exit))
+        (now (text .entry)) (now (text .exit)) r ⌝ }
+{
+    match draw_or_refuse(input, buffer, text) {
+        Drawing::Cube(side) => {
+            let cells = sheet_cube::cells(side);
+            cube_totals::put_totals(side, &buffer[..cells], text)
+        }
+        Drawing::Line(bytes) => bytes,
+    }
+}
+
 // Runs the program of that name. The input is read to its end, or to one byte past the longest sheet: what follows
 // changes nothing.
-pub fn run(name: &[u8]) {
+pub fn run(name: &[u8], report: Report) {
     let mut input = [0u8; 14207];
     let read = reading::fill(libc::STDIN_FILENO, &mut input);
     if read.failed {
@@ -40,7 +63,7 @@ pub fn run(name: &[u8]) {
         return;
     }
     let count = read.count;
-    if !print::print_sheet(&input[..count]) {
+    if !print::print_sheet(&input[..count], report) {
         tell(name, b": the output cannot be written, or not all of it\n");
     }
 }

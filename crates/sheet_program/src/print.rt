@@ -4,15 +4,30 @@ ghost use Prim.Native.Nat.{_≤_};
 ghost use lib.ListN.{length};
 ghost use Rattle.cube.specs.Cube.{volume};
 use crate::Drawing;
+use crate::Report;
 
-// Draws a sheet and prints the listing of its cube, or its refusal line; false if a write fails.
-pub(crate) fn print_sheet(input: &[u8]) -> bool {
+// Prints the report of a sheet, or its refusal line; false if a write fails.
+pub(crate) fn print_sheet(input: &[u8], report: Report) -> bool {
     let mut buffer = [0u8; 64000];
     let mut text = [0u8; 65536];
-    match crate::draw_or_refuse(input, &mut buffer, &mut text) {
+    match report {
+        Report::Listing => print_drawing(input, &mut buffer, &mut text),
+        Report::Totals => {
+            let bytes = crate::total_sheet(input, &mut buffer, &mut text);
+            io::write_all(libc::STDOUT_FILENO, &text[..bytes])
+        }
+    }
+}
+
+// Draws a sheet and prints the listing of its cube, or its refusal line.
+fn print_drawing(input: &[u8], buffer: &mut [u8], text: &mut [u8]) -> bool
+    requires { ⌜ length (now buffer) ≡ 64000 ⌝ }
+    requires { ⌜ 33621 ≤ length (now text) ⌝ }
+{
+    match crate::draw_or_refuse(input, buffer, text) {
         Drawing::Cube(side) => {
             let cells = sheet_cube::cells(side);
-            print_listing(side, &buffer[..cells], &mut text)
+            print_listing(side, &buffer[..cells], text)
         }
         Drawing::Line(bytes) => io::write_all(libc::STDOUT_FILENO, &text[..bytes]),
     }
