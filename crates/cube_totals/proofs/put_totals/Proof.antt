@@ -6,8 +6,6 @@ use mathlib.Core.Bool.{true, false}
 use mathlib.Core.List.{List, _∷_}
 use Prim.Native.Nat.{ℕ, suc, _+_, _-_, _*_, _^_, _≤_, _<_}
 use native.Mathlib.Omega.{arith}
-use mir.Syntax.{w64}
-use mir.Val.{Fits}
 use lib.ListN.{length}
 use denote.Ref.{now}
 use Rattle.sheet.specs.Line.{inLine}
@@ -59,12 +57,10 @@ abbrev μ-loop : tie.MeasureT-loop
 μ-loop side cube text₀ table at₀ mark₀ text at mark = 256 - mark
 
 -- The place after a line.
-fits : (l : tie.At-loop Inv-loop μ-loop) → Fits w64 (l .loop .at + 51)
+fits : (l : tie.At-loop Inv-loop μ-loop) → l .loop .at + 51 < 2 ^ 64
 fits l =
     let s = l .loop .inv in
-    record {
-      fits = omega (arith, s .room, s .until, puts-length (s .puts), l .before .before .before .before .before .before .good);
-    }
+    omega (arith, s .room, s .until, puts-length (s .puts), l .before .before .before .before .before .before .good)
 
 -- The numbers of the table are small.
 small : (c : tie.After-tally Inv-loop μ-loop) → Below (2 ^ 60) (c .tally .last .1 .1 .0)
@@ -86,13 +82,13 @@ slice-aggregate-total-of : tie.Need-slice-aggregate-total-of Inv-loop μ-loop
 slice-aggregate-total-of c = search needs
 
 total-of-requires : tie.Need-total-of-requires Inv-loop μ-loop
-total-of-requires c κs = (small (c .before .before .before .before), c .before .loop-test .taken)
+total-of-requires c κs = (small (c .before .before .before .before), omega (arith, c .before .loop-test .taken))
 
 put-line-requires : tie.Need-put-line-requires Inv-loop μ-loop
 put-line-requires c κs = search needs
 
 add-at : tie.Need-add-at Inv-loop μ-loop
-add-at c = fits (c .before .before .before .before .before .before .before .before .before)
+add-at c = omega (arith, fits (c .before .before .before .before .before .before .before .before .before))
 
 add-mark : tie.Need-add-mark Inv-loop μ-loop
 add-mark c = search needs
@@ -107,8 +103,8 @@ loop-again c =
     let a = l .before .before in
     let s = a .before .before .before .before in
     let i = l .loop .inv in
-    let least = n .before .before .loop-test .taken in
     let m = l .loop .mark in
+    let least : m < 256 = omega (arith, n .before .before .loop-test .taken) in
     let most = s .pre .0 .1 in
     let size = s .pre .1 .0 in
     let t = a .tally .ensures in
@@ -129,7 +125,7 @@ put-line-requires-2 : tie.Need-put-line-requires-2 Inv-loop μ-loop
 put-line-requires-2 c κs = search needs
 
 add-result : tie.Need-add-result Inv-loop μ-loop
-add-result c = fits (c .before .before .before .before .before .before .before)
+add-result c = omega (arith, fits (c .before .before .before .before .before .before .before))
 
 returns : tie.Need-returns Inv-loop μ-loop
 returns c =

@@ -46,7 +46,7 @@ put-totals-requires c κs =
     let k = e .before in
     let d = cube k in
     let kept = text-kept (called k .draw-or-refuse .ensures) (k .before .side .given .1) in (
-      (d .side-least, omega (arith, d .side-most)),
+      (omega (arith, d .side-least), omega (arith, d .side-most)),
       (
         length-take-le _ _ (slice-reshare-prefix-put-totals e) ∙ e .cells .ensures,
         omega (arith, start k .pre .1, ap length kept),

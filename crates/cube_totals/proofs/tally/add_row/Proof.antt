@@ -109,7 +109,7 @@ loop-again c =
     let s = i .before .before .before .before in
     let x = i .before .loop .x in
     let two : x + 1 + 1 ≡ x + 2 = add-assoc x 1 1 in
-    rw (← two)
+    rw two at
     (next (first f) (i .loop-test .taken) (s .pre .0) (s .pre .1 .0)
     (omega (arith, a .before .before .shared-slice-known3 .given (x + 1))) (a .add2 .ensures))
 

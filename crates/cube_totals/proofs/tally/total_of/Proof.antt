@@ -1,11 +1,22 @@
 -- `total_of` meets its contract: the two parts of each word are added, and its halves taken apart.
 use borrow.Author.Needs.{needs}
-use Prim.Native.Nat.{_+_, _*_}
+use Prim.Native.Nat.{_+_, _*_, _^_, _≤_}
 use native.Mathlib.Omega.{arith}
+use lib.ListN.{getD}
 use denote.Ref.{now}
 use Rattle.cube_totals.proofs.Table.{first-word, second-word}
 use Rattle.cube_totals.proofs.tally.total_of.Statement.{statement}
 use Rattle.cube_totals.proofs.tally.total_of.Tie as tie
+
+-- The numbers of a mark's words are small.
+small : (s : tie.Start) →
+    let t = now (s .args .table) in
+    let at = 4 * s .args .mark in
+    (getD t at 0 ≤ 2 ^ 60) × (getD t (at + 1) 0 ≤ 2 ^ 60) × (getD t (at + 2) 0 ≤ 2 ^ 60) × (getD t (at + 3) 0 ≤ 2 ^ 60)
+small s =
+    let b = s .pre .0 .small in
+    let at = 4 * s .args .mark in
+    (b at, b (at + 1), b (at + 2), b (at + 3))
 
 mul-at : tie.Need-mul-at
 mul-at c = search needs
@@ -26,9 +37,7 @@ shared-slice-read-first-2 : tie.Need-shared-slice-read-first-2
 shared-slice-read-first-2 c = search needs
 
 add-first-2 : tie.Need-add-first-2
-add-first-2 c =
-    let s = c .before .before in
-    omega (arith, s .pre .0 .small (4 * s .args .mark), s .pre .0 .small (4 * s .args .mark + 2))
+add-first-2 c = omega (arith, small (c .before .before))
 
 add-second : tie.Need-add-second
 add-second c = search needs
@@ -49,25 +58,19 @@ shared-slice-read-second-2 : tie.Need-shared-slice-read-second-2
 shared-slice-read-second-2 c = search needs
 
 add-second-3 : tie.Need-add-second-3
-add-second-3 c =
-    let s = c .before .before .before .before in
-    omega (arith, s .pre .0 .small (4 * s .args .mark + 1), s .pre .0 .small (4 * s .args .mark + 3))
+add-second-3 c = omega (arith, small (c .before .before .before .before))
 
 cast-t16 : tie.Need-cast-t16
 cast-t16 c = search needs
 
 cast-t17 : tie.Need-cast-t17
-cast-t17 c =
-    let s = c .before .before .before .before in
-    omega (arith, s .pre .0 .small (4 * s .args .mark), s .pre .0 .small (4 * s .args .mark + 2))
+cast-t17 c = omega (arith, small (c .before .before .before .before))
 
 cast-t19 : tie.Need-cast-t19
 cast-t19 c = search needs
 
 cast-t21 : tie.Need-cast-t21
-cast-t21 c =
-    let s = c .before .before .before .before in
-    omega (arith, s .pre .0 .small (4 * s .args .mark + 1), s .pre .0 .small (4 * s .args .mark + 3))
+cast-t21 c = omega (arith, small (c .before .before .before .before))
 
 returns : tie.Need-returns
 returns c =
