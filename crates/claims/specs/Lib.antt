@@ -1,8 +1,9 @@
 -- `Known`: document 01, "Samples to check by", K1 to K12. `Demand3`: demand 3 and "The words of demand 3". `Strokes`:
 -- the same for the curve lines of a sheet. `Calls`: calls to the functions that draw. `Sheets`: calls to the function that
--- draws a sheet.
+-- draws a sheet. `Totals`: what a sheet's totals add up to.
 pub mod Known
 pub mod Demand3
 pub mod Strokes
 pub mod Calls
 pub mod Sheets
+pub mod Totals
