@@ -1,4 +1,6 @@
 // Cases from standard input that are a heading and the bytes that follow it.
+ghost use mathlib.Core.Path.{_≡_};
+ghost use mathlib.Core.Logic.{_⊎_};
 ghost use Prim.Native.Nat.{_<_};
 ghost use lib.ListN.{length};
 ghost use Rattle.cases.specs.Block.{Headed};
@@ -28,7 +30,9 @@ pub fn read_heading(heading: &mut [u8], letter: u8) -> Progress
 }
 
 // Reads as many bytes as are lent. An input that ends before is a failure.
-pub fn read_bytes(bytes: &mut [u8]) -> Progress {
+pub fn read_bytes(bytes: &mut [u8]) -> Progress
+    ensures { λ r. ⌜ (r ≡ Progress.More) ⊎ (r ≡ Progress.Failed) ⌝ }
+{
     let input = reading::fill(libc::STDIN_FILENO, bytes);
     if input.failed || input.count < bytes.len() {
         Progress::Failed

@@ -25,7 +25,7 @@ use Rattle.totals.specs.Sums.{Bytes}
 use Rattle.totals.specs.Printed.{totalsPrinted, totalsOutput}
 use Rattle.totals.proofs.Sums.{counts-add-up, sums-add-up}
 use Rattle.totals.proofs.Numbers.{numbers-fit}
-use Rattle.claims.specs.Totals.{AddUp, SheetTotals, Claim}
+use Rattle.claims.specs.Totals.{Claim}
 
 -- The strokes of a good sheet.
 abbrev strokesIn : Judged → List Stroke

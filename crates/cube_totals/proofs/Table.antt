@@ -2,21 +2,21 @@
 -- is large.
 use mathlib.Core.Path.{_≡_, refl, sym, _∙_, ap, ap₂}
 use mathlib.Core.Logic.{⊎-elim}
-use mathlib.Core.Bool.{Bool, true, false, cond}
+use mathlib.Core.Bool.{cond}
 use mathlib.Core.List.{List, [], _∷_, _++_}
 use Prim.Native.Nat.{ℕ, zero, suc, _+_, _*_, _/_, _%_, _^_, _≤_, _<_}
 use native.Mathlib.Nat.{add-zero, zero-add, suc-add, add-suc, add-assoc, mul-le-mul}
 use native.Mathlib.Numerals.{add-one}
 use native.Mathlib.Omega.{arith}
-use lib.Dec.{T, eqb, ltb}
-use lib.ListN.{length, getD, set, take, drop, replicate, length-set, length-drop, length-replicate, getD-replicate}
+use lib.Dec.{eqb, ltb}
+use lib.ListN.{length, getD, take, drop, replicate, length-set, length-drop, length-replicate, getD-replicate}
 use lib.ListN.{List·getD-eq-default}
 use lib.Seq.{take-suc, take-take, length-take-le, getD-take, getD-drop, getD-set-same, getD-set-other}
 use Rattle.decide.proofs.Truth.{decided, true-of, false-of, equal, less, not-less}
-use Rattle.cube.specs.Cube.{Axis, x-axis, y-axis, z-axis, volume, cellAt}
+use Rattle.cube.specs.Cube.{x-axis, y-axis, z-axis, volume}
 use Rattle.cube.proofs.Places.{x-of, y-of, z-of, cell-at-inside}
 use Rattle.totals.specs.Totals.{sumOver}
-use Rattle.totals.specs.Sums.{sumFrom, Bytes}
+use Rattle.totals.specs.Sums.{Bytes}
 use Rattle.totals.proofs.Ranges.{sum-bounded}
 use Rattle.totals.proofs.Sums.{sum-more}
 use Rattle.totals.proofs.Numbers.{sum-at-most}

@@ -3,7 +3,7 @@
 -- is S × S times 0 + 1 + .. + (S - 1).
 use mathlib.Core.Path.{_≡_, refl, sym, _∙_, ap, ap₂}
 use Prim.Native.Nat.{ℕ, zero, suc, _+_, _-_, _*_, _/_, _%_, _≤_, _<_}
-use native.Mathlib.Nat.{add-zero, zero-add, add-suc, suc-add, add-assoc, add-comm, mul-zero, mul-suc, suc-mul, mul-add, mul-assoc, mul-sub, mul-one}
+use native.Mathlib.Nat.{add-zero, zero-add, add-suc, suc-add, add-comm, mul-zero, mul-suc, suc-mul, mul-add, mul-assoc, mul-sub, mul-one}
 use native.Mathlib.Nat.{mul-left-comm, mod-eq-of-lt, div-eq-of-lt, add-mul-mod-self-left, add-mul-div-left, div-div-eq-div-mul}
 use native.Mathlib.Omega.{arith}
 use Rattle.cube.specs.Cube.{Axis, x-axis, y-axis, z-axis, volume, cellAt}

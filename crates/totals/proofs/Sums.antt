@@ -11,7 +11,7 @@ use lib.Dec.{eqb}
 use lib.ListN.{length}
 use Rattle.decide.proofs.Truth.{decided, true-of, false-of, equal}
 use Rattle.cube.specs.Cube.{Axis, volume, cellAt}
-use Rattle.totals.specs.Totals.{sumOver, count, sum, isHeld, heldFrom, marks}
+use Rattle.totals.specs.Totals.{sumOver, count, sum, heldFrom, marks}
 use Rattle.totals.specs.Sums.{sumFrom, sumOf, Bytes}
 use Rattle.totals.proofs.Ranges.{sum-constant, sum-both, all-cells}
 use Rattle.totals.proofs.Marks.{by-held, with-held, without, sum-not-held}

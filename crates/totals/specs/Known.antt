@@ -1,7 +1,7 @@
 -- Sheets and the totals that are printed for them: document 01's sample sheet, the empty input, and sheets on which the
 -- order of lines, the unmarked cells and the three sums show.
 use mathlib.Core.List.{List, [], _∷_, _++_}
-use Prim.Native.Nat.{ℕ, zero, suc}
+use Prim.Native.Nat.{ℕ}
 use Rattle.sheet.specs.Line.{inLine, asLine}
 use Rattle.sheet.specs.Known.{Known, _prints_, sample, refused-with, stroke, side}
 

@@ -1,12 +1,11 @@
 -- `tally` meets its contract: before each row the table is that of the bytes before it.
-use borrow.Author.Needs.{needs}
 use mathlib.Core.Path.{_≡_, ap}
 use mathlib.Core.List.{List}
 use Prim.Native.Nat.{ℕ, _+_, _-_, _*_, _≤_, _<_}
 use native.Mathlib.Nat.{mul-le-mul-left}
 use native.Mathlib.Omega.{arith}
-use lib.ListN.{length, take, drop, length-take, length-drop}
-use lib.Seq.{take-all, length-take-le}
+use lib.ListN.{length, take, drop, length-take}
+use lib.Seq.{take-all}
 use denote.Ref.{now}
 use Rattle.cube.specs.Cube.{volume}
 use Rattle.cube_totals.specs.declared.tally.Row.{Row}
