@@ -13,6 +13,8 @@ use Rattle.sheet_text.specs.declared.Written.{Written}
 use Rattle.sheet_text.specs.declared.Written.the-variants.{Bytes, Refused}
 use Rattle.sheet_text.specs.Writes.{Says, Writes}
 use Rattle.sheet_text.proofs.Refusals.{passes}
+use Rattle.totals.specs.Totals.{totals}
+use Rattle.totals.proofs.Lines.{length-totals-at-most}
 use Rattle.exports.specs.Signed.{signed}
 use Rattle.exports.specs.Text.{SmallWritten, numberOfWritten, WritesSigned}
 
@@ -33,6 +35,10 @@ part-small S p count textLength cube e =
       length-drop p cube,
     )
     )
+
+-- The totals of a cube have at most 13056.
+pub totals-small : (S : ℕ) (cube : List ℕ) → length (totals S cube) < 2 ^ 32
+totals-small S cube = omega (arith, length-totals-at-most S cube)
 
 -- So what a call answers is small,
 pub small-written : (v : Verdict) (n : ℕ) (r : Written) → Says v n r → (v ≡ accepted → n < 2 ^ 32) → SmallWritten r

@@ -34,7 +34,7 @@ fn listed(side: u32, lent: &[u8], part: usize, text: &mut [u8]) -> Digest
     if 40 < side {
         return empty();
     }
-    let bytes = bytes_of(side);
+    let bytes = sheet_cube::cells(side);
     if lent.len() < bytes {
         return empty();
     }
@@ -43,15 +43,6 @@ fn listed(side: u32, lent: &[u8], part: usize, text: &mut [u8]) -> Digest
     } else {
         by_parts(side, &lent[..bytes], part, text)
     }
-}
-
-// The bytes of a cube.
-fn bytes_of(side: u32) -> usize
-    requires { ⌜ side ≤ 40 ⌝ }
-    ensures { λ r. ⌜ r ≡ volume side ⌝ }
-{
-    let s = side as usize;
-    s * s * s
 }
 
 fn by_planes(side: u32, cube: &[u8], text: &mut [u8]) -> Digest

@@ -105,7 +105,8 @@ curves-early S (suc j) k e rest h all early =
         let split : 71 * suc j + 1 ≡ 71 + (71 * j + 1) = omega arith in
         ap (λ n. drop 71 (take n rest)) split ∙ drop-take 71 (71 * j + 1) rest (omega (arith, h))
 
-judge-early : (input : List ℕ) → judge (take 14207 input) ≡ judge input
+-- The first 14207 bytes decide how a sheet is judged,
+pub judge-early : (input : List ℕ) → judge (take 14207 input) ≡ judge input
 judge-early input =
     by-size (length input) 14207
     (λ whole. ap judge (take-all 14207 input whole))
@@ -129,7 +130,7 @@ judge-early input =
     side-refused first (side-wrong (firstLine first) (long-wrong 1 (firstLine first) (long-line 14207 input h (lit< tt) q))) ∙
     sym (side-refused input (side-wrong (firstLine input) (long-wrong 1 (firstLine input) q)))))
 
--- The first 14207 bytes decide the output.
+-- and so the output.
 pub output-early : (input : List ℕ) → output (take 14207 input) ≡ output input
 unfolding output
 output-early input = ap printed (judge-early input)

@@ -9,6 +9,7 @@ use lib.Seq.{length-take-le}
 use Rattle.cube.specs.Cube.{volume}
 use Rattle.sheet.specs.Printed.{refusalLine}
 use Rattle.sheet.specs.Part.{over}
+use Rattle.sheet_cube.proofs.Early.{judge-early}
 use Rattle.sheet_text.specs.Puts.{Puts}
 use Rattle.sheet_text.proofs.Puts.{puts-over}
 use Rattle.totals.specs.Totals.{totals}
@@ -61,3 +62,8 @@ module _ {input buffer bufferNow text textNow : List ℕ} {r : Drawing}
 pub totals-within : {input buffer bufferNow text textNow : List ℕ} {r : ℕ} →
     WritesTotals input buffer bufferNow text textNow r → r ≤ length textNow
 totals-within w = rw (w .answer, w .writes, length-append) (omega arith)
+
+-- The first 14207 bytes decide the output.
+pub totals-early : (input : List ℕ) → totalsOutput (take 14207 input) ≡ totalsOutput input
+unfolding totalsOutput
+totals-early input = ap totalsPrinted (judge-early input)

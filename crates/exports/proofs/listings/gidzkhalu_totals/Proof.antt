@@ -1,9 +1,7 @@
 -- `gidzkhalu_totals` meets its contract: the call, with its number signed.
 use borrow.Author.Needs.{needs}
-use native.Mathlib.Omega.{arith}
-use Rattle.totals.proofs.Lines.{length-totals-at-most}
 use Rattle.exports.proofs.Small.{small-read}
-use Rattle.exports.proofs.Text.{small-written, written-signed}
+use Rattle.exports.proofs.Text.{totals-small, small-written, written-signed}
 use Rattle.exports.proofs.listings.gidzkhalu_totals.Statement.{statement}
 use Rattle.exports.proofs.listings.gidzkhalu_totals.Tie as tie
 
@@ -13,9 +11,7 @@ write-totals-requires c κs = search needs
 of-written-requires : tie.Need-of-written-requires
 of-written-requires c κs =
     let w = c .before .before .write-totals in
-    let s = c .before .before .before .before .before .before in
-    small-written _ _ (w .result) (w .ensures .answer)
-    (λ _. omega (arith, length-totals-at-most (s .args .side) (s .args .cube .now)))
+    small-written _ _ (w .result) (w .ensures .answer) (λ _. totals-small _ _)
 
 same-length : tie.Need-same-length
 same-length c = search needs

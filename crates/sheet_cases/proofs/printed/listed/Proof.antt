@@ -17,8 +17,8 @@ empty-requires-2 c κs = search needs
 returns-2 : tie.Need-returns-2
 returns-2 c = search needs
 
-bytes-of-requires : tie.Need-bytes-of-requires
-bytes-of-requires c κs = search needs
+cells-requires : tie.Need-cells-requires
+cells-requires c κs = search needs
 
 empty-requires-3 : tie.Need-empty-requires-3
 empty-requires-3 c κs = search needs
@@ -58,7 +58,7 @@ listed-spec =
     returns
     empty-requires-2
     returns-2
-    bytes-of-requires
+    cells-requires
     empty-requires-3
     returns-3
     slice-aggregate-by-planes
