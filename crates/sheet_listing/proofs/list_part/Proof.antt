@@ -1,7 +1,7 @@
 -- `list_part` meets its contract: the number that is answered refuses it, and a part that none refuses is written.
 use borrow.Author.Needs.{needs}
 use borrow.Author.Tests.{ltb-false}
-use mathlib.Core.Path.{_≡_}
+use mathlib.Core.Path.{_≡_, sym, _∙_, ap}
 use Prim.Native.Nat.{ℕ, suc, _+_, _*_, _/_, _≤_}
 use native.Mathlib.Nat.{le-trans}
 use native.Mathlib.Omega.{arith}
@@ -10,7 +10,7 @@ use lib.ListN.{length}
 use denote.Ref.{now}
 use Rattle.decide.specs.Refusal.{firstThat}
 use Rattle.decide.proofs.Truth.{at-most-agrees}
-use Rattle.sheet.specs.Part.{partOrder}
+use Rattle.sheet.specs.Part.{textOrder, partOrder}
 use Rattle.sheet.proofs.Parts.{length-part-at-most}
 use Rattle.sheet_text.specs.Numbered.{numbered}
 use Rattle.sheet_text.proofs.Writes.{writes-accepted, writes-refused}
@@ -31,7 +31,11 @@ answered : (c : tie.After-refusal) →
     let a = c .before .before .before .args in
     firstThat (partOrder (a .side) (a .count) (length (now (a .cube))) (length (now (a .text)))) ≡
     numbered (c .refusal .result)
-answered c = rw same-test at (c .refusal .ensures)
+answered c =
+    let a = c .before .before .before .args in
+    ap (λ short. firstThat (textOrder (a .side) (length (now (a .cube))) short))
+    (sym (same-test (length (now (a .text))) (a .count))) ∙
+    c .refusal .ensures
 
 returns : tie.Need-returns
 returns c = writes-refused (some-refuses _ _ _ (answered (c .before)) (c .if1 .taken))
