@@ -6,11 +6,12 @@ mod steps;
 ghost use mathlib.Core.Path.{_≡_};
 ghost use mathlib.Core.Bool.{false};
 ghost use Rattle.decide.specs.Refusal.{firstThat};
+ghost use Rattle.decide.specs.Verdict.{verdictOf};
 ghost use Rattle.drawing.specs.Refusals.{order, checkVerdict};
-ghost use Rattle.scan.specs.Answer.{verdictOf, Draws, Lists};
+ghost use Rattle.scan.specs.Answer.{Draws, Lists};
 ghost use Rattle.curve.specs.Curve.{curveOf};
+use decide::Verdict;
 use scan::answer::Answer;
-use scan::answer::Verdict;
 
 // A curve record: x, y, z of points 0 to 3, the step count and the mark.
 pub struct Curve {

@@ -27,6 +27,20 @@ unfoldable pub numbers : List Rule → List ℕ
 numbers [] = []
 numbers (r ∷ rs) = r .number ∷ numbers rs
 
+-- What a call answers: a value where no number applies, or the number that refuses it.
+pub data Outcome (A : Type 0) : Type 0 where
+  gives : A → Outcome A
+  refuses : ℕ → Outcome A
+
+abbrev pub outcome : {A : Type 0} → Verdict → A → Outcome A
+outcome accepted a = gives a
+outcome (refused k) a = refuses k
+
+-- What a call leaves: the first if it is accepted, the second if it is refused.
+abbrev pub leaves : {A : Type 0} → Verdict → A → A → A
+leaves accepted a b = a
+leaves (refused k) a b = b
+
 -- One verdict after another: the number of the first if it has one, and else the second's.
 abbrev pub orElse : Verdict → Verdict → Verdict
 orElse (refused k) other = refused k

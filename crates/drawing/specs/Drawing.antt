@@ -3,7 +3,7 @@
 use mathlib.Core.List.{List, [], _∷_, _++_, map}
 use Prim.Native.Nat.{ℕ, zero, suc}
 use lib.ListN.{length, drop, set}
-use Rattle.decide.specs.Refusal.{Verdict, accepted, refused}
+use Rattle.decide.specs.Refusal.{leaves}
 use Rattle.cube.specs.Cube.{x-axis, y-axis, z-axis, Cell, place}
 use Rattle.drawing.specs.Object.{Object, cellOf}
 use Rattle.drawing.specs.Refusals.{drawVerdict, listVerdict}
@@ -32,11 +32,6 @@ marked m (p ∷ ps) grid = marked m ps (set grid p m)
 unfoldable pub bytes : List Cell → List ℕ
 bytes [] = []
 bytes (c ∷ cs) = c x-axis ∷ c y-axis ∷ c z-axis ∷ bytes cs
-
--- What a call leaves: the first if it is accepted, the second if it is refused.
-abbrev pub leaves : {A : Type 0} → Verdict → A → A → A
-leaves accepted a b = a
-leaves (refused k) a b = b
 
 -- The cells of all samples.
 unfoldable pub cells : Object → List Cell

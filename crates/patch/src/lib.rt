@@ -7,11 +7,12 @@ ghost use mathlib.Core.Path.{_≡_};
 ghost use mathlib.Core.Bool.{false};
 ghost use Rattle.decide.specs.Some.{someOf};
 ghost use Rattle.decide.specs.Refusal.{firstThat};
+ghost use Rattle.decide.specs.Verdict.{verdictOf};
 ghost use Rattle.drawing.specs.Refusals.{countOut, order, checkVerdict};
-ghost use Rattle.scan.specs.Answer.{verdictOf, Draws};
+ghost use Rattle.scan.specs.Answer.{Draws};
 ghost use Rattle.patch.specs.Patch.{patchOf};
+use decide::Verdict;
 use scan::answer::Answer;
-use scan::answer::Verdict;
 
 // A patch record: x, y, z of points 0 to 15, the step counts n along t and m along u, and the mark.
 pub struct Patch {

@@ -9,6 +9,9 @@ use lib.Dec.{eqb}
 use lib.ListN.{length, getD}
 use Rattle.decide.specs.Some.{someOf}
 use Rattle.decide.specs.Refusal.{_when_, Verdict, accepted, refused, firstThat, orElse}
+use Rattle.decide.specs.declared.Verdict as found
+use Rattle.decide.specs.declared.Verdict.the-variants.{Accepted, Refused}
+use Rattle.decide.specs.Verdict.{verdictOf}
 use Rattle.decide.proofs.Truth.{false-iff, true-of, decided}
 use Rattle.decide.proofs.Some.{some-of}
 use Rattle.decide.proofs.Refusal.{accepted-none, first-append, first-applies}
@@ -19,10 +22,8 @@ use Rattle.drawing.specs.Refusals.{countOut, coordinateOut, stepsTooLong, order
 use Rattle.drawing.specs.Drawing.{drawn}
 use Rattle.drawing.proofs.Accepted.{coordinate-in}
 use Rattle.drawing.proofs.Drawn.{drawn-refused}
-use Rattle.scan.specs.declared.answer.Verdict as answer
-use Rattle.scan.specs.declared.answer.Verdict.the-variants.{Accepted, Refused}
 use Rattle.scan.specs.declared.answer.Answer.the-variants as answers
-use Rattle.scan.specs.Answer.{verdictOf, Draws}
+use Rattle.scan.specs.Answer.{Draws}
 use Rattle.scan.specs.Refusals.{beforeSteps}
 
 -- The verdict of the step test.
@@ -78,7 +79,7 @@ grid-at-side S o g g′ m l same =
     (decided (sideOut S))
 
 -- A call's verdict, where v is what the tests before the step test answered and long what the step test did.
-module _ (S : ℕ) (o : Object) (g m l out : Bool) (count : out ≡ someOf (countOut (o .most)) (o .counts)) (v : answer.Verdict)
+module _ (S : ℕ) (o : Object) (g m l out : Bool) (count : out ≡ someOf (countOut (o .most)) (o .counts)) (v : found.Verdict)
     (e : verdictOf v ≡ firstThat (beforeSteps S (o .points) g m out l)) where
   parts : firstThat (order S o g m l) ≡ orElse (verdictOf v) (stepVerdict o)
   parts = order-parts S o g m l out count ∙ ap (λ w. orElse w (stepVerdict o)) (sym e)
@@ -102,17 +103,17 @@ module _ (S : ℕ) (o : Object) (g m l out : Bool) (count : out ≡ someOf (coun
     accepted-short t b = sym (steps-decide ∙ short-accepted o (sym t ∙ b))
 
 -- A drawing's verdict, where `cube` is what the test of the grid's length answered.
-pub draw-judged : (S : ℕ) (o : Object) (bytes : ℕ) (v : answer.Verdict) {cube : Bool} → (S ≤ 64 → cube ≡ eqb bytes (volume S)) →
+pub draw-judged : (S : ℕ) (o : Object) (bytes : ℕ) (v : found.Verdict) {cube : Bool} → (S ≤ 64 → cube ≡ eqb bytes (volume S)) →
     verdictOf v ≡ firstThat (order S o (not cube) (eqb (o .mark) 0) false) → drawVerdict S bytes o ≡ verdictOf v
 unfolding drawVerdict
 draw-judged S o bytes v {cube} same e =
     grid-at-side S o _ (not cube) (eqb (o .mark) 0) false (λ h. ap not (sym (same h))) ∙ sym e
 
 -- A drawing's answer and grid, by its verdict.
-module _ (S : ℕ) (o : Object) (grid : List ℕ) (v : answer.Verdict) (judged : drawVerdict S (length grid) o ≡ verdictOf v) where
+module _ (S : ℕ) (o : Object) (grid : List ℕ) (v : found.Verdict) (judged : drawVerdict S (length grid) o ≡ verdictOf v) where
   pub draws-refused : {k : ℕ} → v ≡ Refused k → Draws S o grid grid (answers.Refused k)
   draws-refused q =
-      let r = judged ∙ ap verdictOf q in record { answer = r; leaves = sym (drawn-refused S o grid r) }
+      let r = judged ∙ ap verdictOf q in record { answer = rw r; leaves = sym (drawn-refused S o grid r) }
 
   module _ (q : v ≡ Accepted) where
     pub draw-is-accepted : drawVerdict S (length grid) o ≡ accepted
@@ -120,4 +121,4 @@ module _ (S : ℕ) (o : Object) (grid : List ℕ) (v : answer.Verdict) (judged :
 
     pub draws-accepted : {after : List ℕ} {count : ℕ} → after ≡ drawn S o grid → count ≡ sampleCount (o .counts) →
         Draws S o grid after (answers.Samples count)
-    draws-accepted e n = record { answer = (draw-is-accepted, n); leaves = e }
+    draws-accepted e n = record { answer = rw (draw-is-accepted, n); leaves = e }

@@ -1,10 +1,4 @@
-// The answers of calls.
-
-// What a check finds: no number applies, or the first that does.
-pub enum Verdict {
-    Accepted,
-    Refused(u32),
-}
+// The answers of drawings and listings.
 
 // What a drawing or a listing answers: the number of samples, or the refusal's number.
 pub enum Answer {

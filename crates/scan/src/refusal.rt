@@ -4,11 +4,11 @@ ghost use Prim.Native.Nat.{_≤_};
 ghost use lib.Dec.{eqb};
 ghost use Rattle.decide.specs.Some.{someOf};
 ghost use Rattle.decide.specs.Refusal.{firstThat};
+ghost use Rattle.decide.specs.Verdict.{verdictOf};
 ghost use Rattle.cube.specs.Cube.{volume};
 ghost use Rattle.drawing.specs.Refusals.{countOut, coordinateOut};
-ghost use Rattle.scan.specs.Answer.{verdictOf};
 ghost use Rattle.scan.specs.Refusals.{beforeSteps};
-use crate::answer::Verdict;
+use decide::Verdict;
 
 // Some coordinate is not below the side.
 fn some_coordinate_out(side: u32, points: &[u8]) -> bool

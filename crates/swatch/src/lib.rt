@@ -4,14 +4,15 @@ ghost use mathlib.Core.Path.{_≡_};
 ghost use mathlib.Core.Bool.{false, _&&_};
 ghost use Prim.Native.Nat.{_≤_};
 ghost use Rattle.decide.specs.Refusal.{firstThat, accepted, refused};
+ghost use Rattle.decide.specs.Verdict.{verdictOf};
 ghost use Rattle.hsv.specs.Hue.{hsvRefusals};
-ghost use Rattle.swatch.specs.Verdict.{verdictOf};
 ghost use Rattle.channel.specs.Channel.{inRange, channelRefusals};
 ghost use Rattle.channel.specs.Rgb.{rgbRefusals, AllInRange};
 ghost use Rattle.swatch.specs.Swatch.{channelsOf, swatchRefusals};
 ghost use Rattle.swatch.specs.ToCell.{IsCell, CellSays};
 ghost use Rattle.swatch.specs.HalfWay.{IsHalfWay, HalfWaySays};
 use channel::Rgb;
+use decide::Verdict;
 use hsv::Hsv;
 
 // Three channels, a grey that stands for three equal ones, or hue, saturation and value.
@@ -38,12 +39,6 @@ pub enum CellAnswer {
 pub enum HalfWayAnswer {
     Refused(u32),
     Mixed(Rgb),
-}
-
-// What a check finds: nothing to refuse, or the number of the first refusal.
-enum Verdict {
-    Accepted,
-    Refused(u32),
 }
 
 // The cell of a swatch in the cube of the given side. Refused: 11 for the side, then the swatch's number: 31 or 32 for red,

@@ -5,9 +5,9 @@ use mathlib.Core.Path.{_≡_}
 use native.Mathlib.Omega.{arith}
 use lib.Dec.{lit<}
 use lib.ListN.{length}
+use Rattle.decide.specs.Verdict.{verdictOf}
 use Rattle.drawing.specs.Refusals.{drawVerdict, sampleCount}
 use Rattle.drawing.proofs.Accepted.{draw-accepted}
-use Rattle.scan.specs.Answer.{verdictOf}
 use Rattle.scan.proofs.Orders.{draw-judged, draws-refused, draw-is-accepted, draws-accepted}
 use Rattle.curve.specs.Curve.{curveOf}
 use Rattle.curve.proofs.draw_curve.Statement.{statement}

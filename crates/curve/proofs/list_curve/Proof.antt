@@ -6,10 +6,11 @@ use Prim.Native.Nat.{suc, _+_, _*_}
 use native.Mathlib.Omega.{arith}
 use lib.Dec.{lit<}
 use lib.ListN.{length}
+use Rattle.decide.specs.Refusal.{gives}
+use Rattle.decide.specs.Verdict.{verdictOf}
 use Rattle.drawing.specs.Refusals.{listVerdict, sampleCount}
 use Rattle.drawing.proofs.Accepted.{list-accepted}
 use Rattle.drawing.proofs.Listed.{listed-refused}
-use Rattle.scan.specs.Answer.{verdictOf}
 use Rattle.curve.specs.Curve.{curveOf}
 use Rattle.curve.proofs.list_curve.Statement.{statement}
 use Rattle.curve.proofs.list_curve.Tie as tie
@@ -58,7 +59,7 @@ returns : tie.Need-returns
 returns c =
     let b = c .before .before .before in
     let refused = judged b ∙ ap verdictOf (c .before .k .given .1) in
-    record { answer = refused; leaves = sym (listed-refused (s b .args .side) (curveOf (s b .args .curve)) (now (s b .args .list)) refused) }
+    record { answer = rw refused; leaves = sym (listed-refused (s b .args .side) (curveOf (s b .args .curve)) (now (s b .args .list)) refused) }
 
 same-length : tie.Need-same-length
 same-length c = search needs
@@ -69,7 +70,7 @@ returns-2 c =
     let m = c .before .before .before in
     let t = m .before .before in
     record {
-      answer = (judged (t .before .before) ∙ ap verdictOf (t .enum-told .given .1), omega arith);
+      answer = rw (judged (t .before .before) ∙ ap verdictOf (t .enum-told .given .1)) (ap gives (omega arith));
       leaves = m .list-samples .ensures;
     }
 

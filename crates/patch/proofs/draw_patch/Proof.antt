@@ -7,9 +7,9 @@ use native.Mathlib.Nat.{mul-le-mul}
 use native.Mathlib.Omega.{arith}
 use lib.Dec.{lit<}
 use lib.ListN.{length}
+use Rattle.decide.specs.Verdict.{verdictOf}
 use Rattle.drawing.specs.Refusals.{drawVerdict, sampleCount}
 use Rattle.drawing.proofs.Accepted.{draw-accepted}
-use Rattle.scan.specs.Answer.{verdictOf}
 use Rattle.scan.proofs.Orders.{draw-judged, draws-refused, draw-is-accepted, draws-accepted}
 use Rattle.patch.specs.Patch.{patchOf}
 use Rattle.patch.proofs.draw_patch.Statement.{statement}

@@ -3,7 +3,7 @@ use mathlib.Core.Path.{_≡_, sym, ap, _∙_}
 use borrow.Author.Needs.{needs}
 use Rattle.decide.specs.Refusal.{firstThat, accepted}
 use Rattle.decide.proofs.Refusal.{first-append}
-use Rattle.swatch.specs.Verdict.{verdictOf}
+use Rattle.decide.specs.Verdict.{verdictOf}
 use Rattle.swatch.specs.Swatch.{swatchRefusals}
 use Rattle.swatch.proofs.Range.{swatch-in-range}
 use Rattle.swatch.proofs.half_way.Statement.{statement}

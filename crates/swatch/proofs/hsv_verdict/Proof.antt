@@ -9,7 +9,7 @@ use Rattle.channel.specs.Channel.{channelRefusals}
 use Rattle.hsv.specs.declared.Hsv.{Hsv}
 use Rattle.hsv.specs.Hue.{hueRefusals, hsvRefusals}
 use Rattle.hsv.proofs.InRange.{hue-accepted}
-use Rattle.swatch.specs.Verdict.{verdictOf}
+use Rattle.decide.specs.Verdict.{verdictOf}
 use Rattle.swatch.proofs.hsv_verdict.Statement.{statement}
 use Rattle.swatch.proofs.hsv_verdict.Tie as tie
 

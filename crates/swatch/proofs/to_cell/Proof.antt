@@ -6,7 +6,7 @@ use borrow.Author.Needs.{needs}
 use borrow.Author.Tests.{lt-ltb, le-ltb, ltb-false}
 use Rattle.decide.specs.Refusal.{firstThat, accepted}
 use Rattle.decide.proofs.Refusal.{first-applies, first-passes}
-use Rattle.swatch.specs.Verdict.{verdictOf}
+use Rattle.decide.specs.Verdict.{verdictOf}
 use Rattle.swatch.specs.Swatch.{swatchRefusals}
 use Rattle.cube.specs.Cube.{sideOut}
 use Rattle.swatch.specs.ToCell.{cellRefusals}

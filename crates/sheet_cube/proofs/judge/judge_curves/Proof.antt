@@ -9,7 +9,7 @@ use native.Mathlib.Omega.{arith}
 use lib.ListN.{length, drop, length-drop}
 use lib.Seq.{take-all}
 use Rattle.decide.specs.Refusal.{accepted, firstThat}
-use Rattle.scan.specs.Answer.{verdictOf}
+use Rattle.decide.specs.Verdict.{verdictOf}
 use Rattle.sheet.specs.Sheet.{curveOrder}
 use Rattle.sheet.specs.Call.{said}
 use Rattle.sheet_lines.specs.Read.{firstLine}
