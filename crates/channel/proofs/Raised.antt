@@ -1,5 +1,5 @@
--- A channel up to 1/128 is raised to 1/128: both are in cell 0. The raised channel has no minus, and its exponent's field
--- is 120 to 127.
+-- A dark channel is raised to 1/128: both are in cell 0. The raised channel has no minus, and its exponent's field is 120
+-- to 127.
 use mathlib.Core.Path.{_≡_, sym, ap, subst}
 use Prim.Native.Nat.{ℕ, zero, suc, _-_, _*_, _/_, _^_, _≤_, _<_}
 use native.Mathlib.Nat.{
@@ -28,8 +28,7 @@ use Rattle.channel.specs.Channel.{inRange}
 use Rattle.channel.specs.Coordinate.{Owns}
 use Rattle.channel.proofs.Order.{
   NonNegative,
-  le→fractions,
-  fractions→le,
+  le-fractions,
   le-or-ge,
   range-nonneg,
   fraction-le-one,
@@ -54,45 +53,63 @@ small32 = fin false 1 (negsuc 6)
 pub factor-le : (S : ℕ) → S ≤ 64 → S - 1 ≤ 63
 factor-le S h = omega arith
 
--- A channel up to 1/128 is in cell 0.
-low-owns : (v : Float) (S : ℕ) → T (inRange v) → T (le v small32) → S ≤ 64 → Owns 0 (num v * (S - 1)) (den v)
-low-owns v S h l g =
-    let p = le→fractions v small32 (range-nonneg v h) (λ k. absurd k) l in
-    let q : num v * (S - 1) ≤ num v * 63 = mul-le-mul-left (num v) (factor-le S g) in
-    let d = den-pos v in
+-- A value of which 63 times is at most a half is in cell 0 at every side.
+dark-owns : (n d S : ℕ) → 0 < d → n * 126 ≤ d → S ≤ 64 → Owns 0 (n * (S - 1)) d
+dark-owns n d S D h g =
+    let q : n * (S - 1) ≤ n * 63 = mul-le-mul-left n (factor-le S g) in
     record { above = omega arith; upTo = omega arith }
+
+-- So is a value up to it.
+dark-below : (n d p q : ℕ) → 0 < q → n * q ≤ p * d → p * 126 ≤ q → n * 126 ≤ d
+dark-below n d p q Q l h =
+    let a : p * 126 * d ≤ q * d = mul-le-mul-right d h in
+    le-of-mul-le-mul-right {m = n * 126} {n = d} (omega arith) Q
+
+-- A value from one that is from 1/128 is from 1/128.
+from-above : (n d p q : ℕ) → 0 < q → 1 * q ≤ p * 128 → p * d ≤ n * q → 1 * d ≤ n * 128
+from-above n d p q Q h l =
+    let a : 1 * q * d ≤ p * 128 * d = mul-le-mul-right d h in
+    le-of-mul-le-mul-right {m = 1 * d} {n = n * 128} (omega arith) Q
 
 -- A channel v is raised to u, a channel from 1/128 in the same cell.
 pub record Raised (v u : Float) : Type 0 where
+  pub large : T (le small32 u)
   pub held : T (fits binary32 u)
   pub range : T (inRange u)
-  pub large : T (le small32 u)
   pub cell : (c S : ℕ) → S ≤ 64 → Owns c (num u * (S - 1)) (den u) → Owns c (num v * (S - 1)) (den v)
 
--- A channel up to 1/128 is raised to it.
-pub raised-small : (v : Float) → T (inRange v) → le v small32 ≡ true → Raised v small32
-unfolding fits le inRange
-raised-small v h e =
-    let l = subst T (sym e) tt in
-    record {
-      held = tt;
-      range = tt;
-      large = tt;
+-- A channel up to k is raised to k, if k is from 1/128 and 63 × k at most a half.
+pub raised-small : {u k : Float} (v : Float) → u ≡ k → T (le small32 k) → T (fits binary32 k) → T (inRange k)
+    → num k * 126 ≤ den k → T (inRange v) → le v k ≡ true → Raised v u
+raised-small {k} v w l F r b h e =
+    let p = le-fractions v k (range-nonneg v h) (range-nonneg k r) .0 (subst T (sym e) tt) in
+    let a = dark-below (num v) (den v) (num k) (den k) (den-pos k) p b in
+    rw w
+    (record {
+      large = l;
+      held = F;
+      range = r;
       cell =
           λ c S g o.
           subst (λ (z : ℕ). Owns z (num v * (S - 1)) (den v))
-          (owns-unique 0 c (num small32 * (S - 1)) (den small32) (low-owns small32 S tt tt g) o) (low-owns v S h l g);
-    }
+          (owns-unique 0 c (num k * (S - 1)) (den k) (dark-owns (num k) (den k) S (den-pos k) b g) o)
+          (dark-owns (num v) (den v) S (den-pos v) a g);
+    })
 
--- Any other stays.
-pub raised-large : (v : Float) → T (fits binary32 v) → T (inRange v) → le v small32 ≡ false → Raised v v
-raised-large v F h e =
+-- A channel above k stays, if k is from 1/128.
+pub raised-large : (v k : Float) → le v k ≡ false → T (le small32 k) → T (inRange k) → T (fits binary32 v) → T (inRange v)
+    → Raised v v
+raised-large v k e l r F h =
     let p = range-nonneg v h in
-    let q : NonNegative small32 = λ k. absurd k in
+    let q = range-nonneg k r in
+    let s : NonNegative small32 = λ k. absurd k in
+    let a = le-or-ge v k p q (subst (λ (b : Bool). T (not b)) (sym e) tt) in
     record {
+      large =
+          le-fractions small32 v s p .1
+          (from-above (num v) (den v) (num k) (den k) (den-pos k) (le-fractions small32 k s q .0 l) a);
       held = F;
       range = h;
-      large = fractions→le small32 v q p (le-or-ge v small32 p q (subst (λ (b : Bool). T (not b)) (sym e) tt));
       cell = λ c S g o. o;
     }
 
@@ -125,7 +142,7 @@ from-small n d q D h l e =
 module _ (u : Float) (F : T (fits binary32 u)) (h : T (inRange u)) (l : T (le small32 u)) where
   -- Its fraction.
   large-fraction : den u ≤ num u * 128
-  large-fraction = omega (arith, le→fractions small32 u (λ k. absurd k) (range-nonneg u h) l)
+  large-fraction = omega (arith, le-fractions small32 u (λ k. absurd k) (range-nonneg u h) .0 l)
 
   -- Its field is at least 120.
   pub field-ge : 120 ≤ exponentField (toBits binary32 u)

@@ -21,7 +21,7 @@ use Rattle.totals.proofs.Ranges.{sum-bounded}
 use Rattle.totals.proofs.Sums.{sum-more}
 use Rattle.totals.proofs.Numbers.{sum-at-most}
 use Rattle.cube_totals.specs.declared.tally.Row.{Row}
-use Rattle.cube_totals.specs.Table.{half, words, adds, word, Table, plus, plusAll, added, addedRow, Below}
+use Rattle.cube_totals.specs.Table.{twoTo32, words, adds, word, Table, plus, plusAll, added, addedRow, Below}
 use Rattle.cube_totals.specs.Next.{rowNumber}
 
 -- A number more at one place changes that place alone.
@@ -130,8 +130,8 @@ below-added {most} {t} b x y z l x-in y-in z-in below =
     let i : ℕ = 4 * b + 2 * (x % 2) in
     let rise : most + 2 ^ 39 + 2 ^ 39 ≡ most + 2 ^ 40 = omega arith in
     rw (← rise)
-    (below-plus (suc i) (y + half * z) (omega arith) (omega arith)
-    (below-plus i (1 + half * x) (omega arith) (omega arith) below))
+    (below-plus (suc i) (y + twoTo32 * z) (omega arith) (omega arith)
+    (below-plus i (1 + twoTo32 * x) (omega arith) (omega arith) below))
 
 -- The next cell of a row.
 pub row-more : (marks : List ℕ) (x : ℕ) (r : Row) (t : List ℕ) (m : ℕ) →
