@@ -46,7 +46,7 @@ pub below-more : {most : ℕ} {t : List ℕ} (more : ℕ) → most ≤ more → 
 below-more more l b = record { size = b .size; small = λ i. omega (arith, b .small i) }
 
 -- Numbers side by side change their places alone.
-pub length-plus-all : (t : List ℕ) (i : ℕ) (vs : List ℕ) → length (plusAll t i vs) ≡ length t
+length-plus-all : (t : List ℕ) (i : ℕ) (vs : List ℕ) → length (plusAll t i vs) ≡ length t
 unfolding plusAll
 length-plus-all t i [] = refl
 length-plus-all t i (v ∷ vs) = length-plus-all (plus t i v) (suc i) vs ∙ length-set t i (getD t i 0 + v)
@@ -134,7 +134,7 @@ below-added {most} {t} b x y z l x-in y-in z-in below =
     (below-plus i (1 + twoTo32 * x) (omega arith) (omega arith) below))
 
 -- The next cell of a row.
-pub row-more : (marks : List ℕ) (x : ℕ) (r : Row) (t : List ℕ) (m : ℕ) →
+row-more : (marks : List ℕ) (x : ℕ) (r : Row) (t : List ℕ) (m : ℕ) →
     addedRow (marks ++ m ∷ []) x r t ≡ added m (x + length marks) (r .y) (r .z) (addedRow marks x r t)
 unfolding addedRow
 row-more [] x r t m = rw add-zero

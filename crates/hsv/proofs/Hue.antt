@@ -1,6 +1,6 @@
 -- A hue in range: its whole part is 0 to 5, and the fractional part is exact and from 0 to below 1.
 use mathlib.Core.Path.{_≡_, refl, sym, ap, _∙_}
-use Prim.Native.Nat.{ℕ, zero, suc, _+_, _-_, _*_, _/_, _^_, _≤_, _<_}
+use Prim.Native.Nat.{ℕ, zero, suc, _+_, _-_, _*_, _^_, _≤_, _<_}
 use native.Mathlib.Nat.{
   le-of-lt,
   le-of-suc-le-suc,

@@ -39,7 +39,7 @@ rgb-accepted c e =
     rgb-first c ∙ rw (range-accepted (c .red) (k .0), range-accepted (c .green) (k .1), range-accepted (c .blue) (h .1))
 
 -- Three channels with no refusal lie from 0 to 1.
-pub rgb-in-range : (c : Rgb) → firstThat (rgbRefusals c) ≡ accepted → AllInRange c
+rgb-in-range : (c : Rgb) → firstThat (rgbRefusals c) ≡ accepted → AllInRange c
 rgb-in-range c h =
     let r =
     accepted-append-three (channelRefusals (c .red)) (channelRefusals (c .green)) (channelRefusals (c .blue)) h in
