@@ -19,15 +19,13 @@ use native.Mathlib.Nat.{
 }
 use native.Mathlib.Omega.{arith}
 use mathlib.Core.Bool.{Bool, true, false, not}
-use lib.IntN.{negsuc}
 use lib.Dec.{T, lit≤, lit<}
 use lib.Pow.{pow-pos, pow-mono}
-use lib.Ieee.{Float, fin, binary32, le, toBits, fits}
+use lib.Ieee.{Float, binary32, le, toBits, fits}
 use lib.Ieee.Positive.{num, den, den-pos}
 use Rattle.channel.specs.Channel.{inRange}
 use Rattle.channel.specs.Coordinate.{Owns}
 use Rattle.channel.proofs.Order.{
-  NonNegative,
   le-fractions,
   le-or-ge,
   range-nonneg,
@@ -44,10 +42,6 @@ use Rattle.channel.proofs.Bits.{
   bits-plus,
 }
 use Rattle.channel.proofs.Owns.{owns-unique}
-
--- The f32 value 1/128.
-abbrev pub small32 : Float
-small32 = fin false 1 (negsuc 6)
 
 -- A side up to 64 is a factor of at most 63.
 pub factor-le : (S : ℕ) → S ≤ 64 → S - 1 ≤ 63
@@ -66,20 +60,20 @@ dark-below n d p q Q l h =
     le-of-mul-le-mul-right {m = n * 126} {n = d} (omega arith) Q
 
 -- A value from one that is from 1/128 is from 1/128.
-from-above : (n d p q : ℕ) → 0 < q → 1 * q ≤ p * 128 → p * d ≤ n * q → 1 * d ≤ n * 128
+from-above : (n d p q : ℕ) → 0 < q → q ≤ p * 128 → p * d ≤ n * q → d ≤ n * 128
 from-above n d p q Q h l =
-    let a : 1 * q * d ≤ p * 128 * d = mul-le-mul-right d h in
-    le-of-mul-le-mul-right {m = 1 * d} {n = n * 128} (omega arith) Q
+    let a : q * d ≤ p * 128 * d = mul-le-mul-right d h in
+    le-of-mul-le-mul-right {m = d} {n = n * 128} (omega arith) Q
 
 -- A channel v is raised to u, a channel from 1/128 in the same cell.
 pub record Raised (v u : Float) : Type 0 where
-  pub large : T (le small32 u)
+  pub large : den u ≤ num u * 128
   pub held : T (fits binary32 u)
   pub range : T (inRange u)
   pub cell : (c S : ℕ) → S ≤ 64 → Owns c (num u * (S - 1)) (den u) → Owns c (num v * (S - 1)) (den v)
 
 -- A channel up to k is raised to k, if k is from 1/128 and 63 × k at most a half.
-pub raised-small : {u k : Float} (v : Float) → u ≡ k → T (le small32 k) → T (fits binary32 k) → T (inRange k)
+pub raised-small : {u k : Float} (v : Float) → u ≡ k → den k ≤ num k * 128 → T (fits binary32 k) → T (inRange k)
     → num k * 126 ≤ den k → T (inRange v) → le v k ≡ true → Raised v u
 raised-small {k} v w l F r b h e =
     let p = le-fractions v k (range-nonneg v h) (range-nonneg k r) .0 (subst T (sym e) tt) in
@@ -97,17 +91,12 @@ raised-small {k} v w l F r b h e =
     })
 
 -- A channel above k stays, if k is from 1/128.
-pub raised-large : (v k : Float) → le v k ≡ false → T (le small32 k) → T (inRange k) → T (fits binary32 v) → T (inRange v)
+pub raised-large : (v k : Float) → le v k ≡ false → den k ≤ num k * 128 → T (inRange k) → T (fits binary32 v) → T (inRange v)
     → Raised v v
 raised-large v k e l r F h =
-    let p = range-nonneg v h in
-    let q = range-nonneg k r in
-    let s : NonNegative small32 = λ k. absurd k in
-    let a = le-or-ge v k p q (subst (λ (b : Bool). T (not b)) (sym e) tt) in
+    let a = le-or-ge v k (range-nonneg v h) (range-nonneg k r) (subst (λ (b : Bool). T (not b)) (sym e) tt) in
     record {
-      large =
-          le-fractions small32 v s p .1
-          (from-above (num v) (den v) (num k) (den k) (den-pos k) (le-fractions small32 k s q .0 l) a);
+      large = from-above (num v) (den v) (num k) (den k) (den-pos k) l a;
       held = F;
       range = h;
       cell = λ c S g o. o;
@@ -139,12 +128,9 @@ from-small n d q D h l e =
     let k : d * D ≤ n * 128 * D = mul-le-mul-right D l in
     le-of-mul-le-mul-right {m = D} {n = q} (omega arith) h
 
-module _ (u : Float) (F : T (fits binary32 u)) (h : T (inRange u)) (l : T (le small32 u)) where
-  -- Its fraction.
-  large-fraction : den u ≤ num u * 128
-  large-fraction = omega (arith, le-fractions small32 u (λ k. absurd k) (range-nonneg u h) .0 l)
-
-  -- Its field is at least 120.
+-- The exponent's field of a channel from 1/128.
+module _ (u : Float) (F : T (fits binary32 u)) (h : T (inRange u)) (l : den u ≤ num u * 128) where
+  -- It is at least 120.
   pub field-ge : 120 ≤ exponentField (toBits binary32 u)
   field-ge =
       let b = toBits binary32 u in
@@ -152,9 +138,9 @@ module _ (u : Float) (F : T (fits binary32 u)) (h : T (inRange u)) (l : T (le sm
       (lt-of-not-le
       (λ (k : exponentField b < 120).
       not-le-of-lt (units-lt b k)
-      (from-small (num u) (den u) (units b) (2 ^ 142) (den-pos u) large-fraction (bits-value u F (range-nonneg u h)))))
+      (from-small (num u) (den u) (units b) (2 ^ 142) (den-pos u) l (bits-value u F (range-nonneg u h)))))
 
-  -- Its field is at most 127.
+  -- It is at most 127.
   pub field-le : exponentField (toBits binary32 u) ≤ 127
   field-le =
       let b = toBits binary32 u in
@@ -163,9 +149,9 @@ module _ (u : Float) (F : T (fits binary32 u)) (h : T (inRange u)) (l : T (le sm
       (λ (k : 128 ≤ exponentField b).
       above-one (exponentField b) b k (fraction-le-one u (units b) (2 ^ 149) (bits-value u F (range-nonneg u h)) h)))
 
-  -- It is above 0, so its field is all of the pattern above the fraction's.
+  -- The channel is above 0, so the field is all of the pattern above the fraction's.
   pub field-is : exponentField (toBits binary32 u) ≡ toBits binary32 u / 8388608
   field-is =
       let d = den-pos u in
-      let p : 0 < num u = omega (arith, large-fraction) in
+      let p : 0 < num u = omega arith in
       ap (λ (z : ℕ). z / 8388608) (mod-eq-of-lt (bits-plus u F (range-nonneg u h) p))

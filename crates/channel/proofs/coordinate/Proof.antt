@@ -15,15 +15,14 @@ use Rattle.channel.proofs.FromBits.{product-le, raised-coordinate}
 use Rattle.channel.proofs.coordinate.Statement.{statement}
 use Rattle.channel.proofs.coordinate.Tie as tie
 
--- What the channel is raised to. What the tests and the constants of the code must be for it is computed: each is from
--- 1/128, an f32 and a channel, and in cell 0 at every side.
+-- What the channel is raised to. That the code's constant is from 1/128, and in cell 0 at every side, is computed.
 raised : (c : tie.Joined1) → Raised (c .before .args .v) (c .if1 .raised)
 unfolding ofBits le fits inRange
 raised c =
     let s = c .before in
     let v = s .args .v in
-    ⊎-elim (λ w. raised-small v (w .1) tt tt tt (lit≤ tt) (s .pre .1) (w .0 .taken))
-    (λ w. rw (w .1) (raised-large v _ (w .0 .left) tt tt (subst T (sym (s .good .1 .0 .1)) tt) (s .pre .1)))
+    ⊎-elim (λ w. raised-small v (w .1) (lit≤ tt) tt tt (lit≤ tt) (s .pre .1) (w .0 .taken))
+    (λ w. rw (w .1) (raised-large v _ (w .0 .left) (lit≤ tt) tt (subst T (sym (s .good .1 .0 .1)) tt) (s .pre .1)))
     (c .if1 .came)
 
 returns : tie.Need-returns
