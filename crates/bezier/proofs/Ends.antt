@@ -9,12 +9,12 @@ use Rattle.bezier.specs.Exact.{blend, scale, points, value, Sample, no-i
 
 module _ (n a b c d : ℕ) where
   -- Sample 0 of n has the first control value.
-  pub blend-first : blend n 0 a b c d ≡ n * n * n * a
+  blend-first : blend n 0 a b c d ≡ n * n * n * a
   unfolding blend
   blend-first = rw sub-zero (omega arith)
 
   -- Sample n of n has the last control value.
-  pub blend-last : blend n n a b c d ≡ n * n * n * d
+  blend-last : blend n n a b c d ≡ n * n * n * d
   unfolding blend
   blend-last = rw sub-self (omega arith)
 

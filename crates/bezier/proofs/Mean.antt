@@ -9,7 +9,7 @@ use lib.Dec.{lit<}
 use Rattle.bezier.specs.Exact.{blend, scale, points, value, Sample, no-index, index}
 
 -- No weight is negative.
-pub blend-grows : (n i : ℕ) {a b c d a′ b′ c′ d′ : ℕ} → a ≤ a′ → b ≤ b′ → c ≤ c′ → d ≤ d′ →
+blend-grows : (n i : ℕ) {a b c d a′ b′ c′ d′ : ℕ} → a ≤ a′ → b ≤ b′ → c ≤ c′ → d ≤ d′ →
     blend n i a b c d ≤ blend n i a′ b′ c′ d′
 unfolding blend
 blend-grows n i ha hb hc hd =
@@ -38,7 +38,7 @@ in-quarter : (k q p : ℕ) → k < 4 → p < q → k * q + p < 4 * q
 in-quarter k q p hk hp = omega (arith, mul-le-mul-right q hk)
 
 -- A value grows with the control values.
-pub value-grows : (ns is : List ℕ) (g h : ℕ → ℕ) → ((k : ℕ) → k < points ns → g k ≤ h k) → value ns g is ≤ value ns h is
+value-grows : (ns is : List ℕ) (g h : ℕ → ℕ) → ((k : ℕ) → k < points ns → g k ≤ h k) → value ns g is ≤ value ns h is
 unfolding value points
 value-grows [] is g h le = le 0 (lit< tt)
 value-grows (n ∷ ns) [] g h le = omega arith
@@ -50,7 +50,7 @@ value-grows (n ∷ ns) (i ∷ is) g h le =
     blend-grows n i (part 0 (lit< tt)) (part 1 (lit< tt)) (part 2 (lit< tt)) (part 3 (lit< tt))
 
 -- Equal control values are every sample's value.
-pub value-constant : {ns is : List ℕ} (m : ℕ) → Sample ns is → value ns (λ k. m) is ≡ scale ns * m
+value-constant : {ns is : List ℕ} (m : ℕ) → Sample ns is → value ns (λ k. m) is ≡ scale ns * m
 unfolding value scale
 value-constant m no-index = omega arith
 value-constant m (index {n} {ns = ns} h s) = rw (value-constant m s, blend-constant (scale ns * m) h) (omega arith)

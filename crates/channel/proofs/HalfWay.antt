@@ -18,8 +18,7 @@ use Rattle.channel.specs.HalfWay.{half32, minusZero32, lower, higher}
 use Rattle.channel.proofs.Order.{
   NonNegative,
   zero-size,
-  le→fractions,
-  fractions→le,
+  le-fractions,
   le-or-ge,
   range-nonneg,
   range-le-one,
@@ -71,13 +70,13 @@ module _ (na da nb db : ℕ) (A : 0 < da) (B : 0 < db) (a-le : na ≤ da) (b-le 
       (round-value (na * db + nb * da) (da * db) (mul-pos A B) sum-le-two)
 
   -- It is not below 0.
-  pub half-nonneg : NonNegative (mul binary32 total half32)
+  half-nonneg : NonNegative (mul binary32 total half32)
   half-nonneg =
       subst NonNegative (sym half-is)
       (round-nonneg (num total * 1) (den total * 2) (mul-pos (den-pos total) (lit< tt)) half-le-two)
 
   -- A fraction at most both is at most the half, if it and its double are held.
-  pub half-above : (n c : ℕ) → 0 < c → Held n c → Held (2 * n) c → n * da ≤ na * c → n * db ≤ nb * c
+  half-above : (n c : ℕ) → 0 < c → Held n c → Held (2 * n) c → n * da ≤ na * c → n * db ≤ nb * c
       → n * den (mul binary32 total half32) ≤ num (mul binary32 total half32) * c
   half-above n c C H H2 p q =
       let a : n * da * db ≤ na * c * db = mul-le-mul-right db p in
@@ -88,7 +87,7 @@ module _ (na da nb db : ℕ) (A : 0 < da) (B : 0 < db) (a-le : na ≤ da) (b-le 
       (omega arith))
 
   -- A fraction at least both is at least the half, if it and its double are held.
-  pub half-below : (n c : ℕ) → 0 < c → Held n c → Held (2 * n) c → na * c ≤ n * da → nb * c ≤ n * db
+  half-below : (n c : ℕ) → 0 < c → Held n c → Held (2 * n) c → na * c ≤ n * da → nb * c ≤ n * db
       → num (mul binary32 total half32) * c ≤ n * den (mul binary32 total half32)
   half-below n c C H H2 p q =
       let a : na * c * db ≤ n * da * db = mul-le-mul-right db p in
@@ -103,7 +102,7 @@ bounds : (a b r : Float) → NonNegative a → NonNegative b
     → ((num a * den b ≤ num b * den a) → T (le a r) × T (le r b))
     → ((num b * den a ≤ num a * den b) → T (le b r) × T (le r a))
     → T (le (lower a b) r) × T (le r (higher a b))
-bounds a b r p q h k = go (le a b) (le→fractions a b p q) (le-or-ge a b p q)
+bounds a b r p q h k = go (le a b) (le-fractions a b p q .0) (le-or-ge a b p q)
   where
     go : (x : Bool) → (T x → num a * den b ≤ num b * den a) → (T (not x) → num b * den a ≤ num a * den b)
         → T (le (cond x a b) r) × T (le r (cond x b a))
@@ -127,12 +126,12 @@ half-of-sum a b F G u v =
     let bb = le-refl (num b * den b) in
     bounds a b r p q
     (λ h. (
-      fractions→le a r p n (low (num a) (den a) (den-pos a) (channel-held a F u) (double-held a F u) aa h),
-      fractions→le r b n q (high (num b) (den b) (den-pos b) (channel-held b G v) (double-held b G v) h bb),
+      le-fractions a r p n .1 (low (num a) (den a) (den-pos a) (channel-held a F u) (double-held a F u) aa h),
+      le-fractions r b n q .1 (high (num b) (den b) (den-pos b) (channel-held b G v) (double-held b G v) h bb),
     ))
     (λ h. (
-      fractions→le b r q n (low (num b) (den b) (den-pos b) (channel-held b G v) (double-held b G v) h bb),
-      fractions→le r a n p (high (num a) (den a) (den-pos a) (channel-held a F u) (double-held a F u) aa h),
+      le-fractions b r q n .1 (low (num b) (den b) (den-pos b) (channel-held b G v) (double-held b G v) h bb),
+      le-fractions r a n p .1 (high (num a) (den a) (den-pos a) (channel-held a F u) (double-held a F u) aa h),
     ))
 
 -- A sum in which a minus stands only before 0, and not before both, is the rounded sum of the sizes.
@@ -181,7 +180,7 @@ unfolding mul add
 minus-zeros = refl
 
 -- What is shown: the half-way value is at least the lower channel and at most the higher.
-abbrev pub Between : Float → Float → Type 0
+abbrev Between : Float → Float → Type 0
 Between a b =
     T (le (lower a b) (mul binary32 (add binary32 a b) half32))
     × T (le (mul binary32 (add binary32 a b) half32) (higher a b))

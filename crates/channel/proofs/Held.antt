@@ -13,7 +13,7 @@ use lib.Ieee.Scale.{finite, grid, round-val, round-under}
 use lib.Ieee.Order.{transfer, round-mono}
 use lib.Ieee.Positive.{num, den, den-pos}
 use Rattle.channel.specs.Channel.{inRange, zero32}
-use Rattle.channel.proofs.Order.{NonNegative, le→fractions, range-nonneg, fraction-le-one, value-nonneg, value-cross}
+use Rattle.channel.proofs.Order.{NonNegative, le-fractions, range-nonneg, fraction-le-one, value-nonneg, value-cross}
 use Rattle.channel.proofs.Bits.{
   exponentField,
   fractionField,
@@ -121,7 +121,7 @@ rounded-above a c n d C D H k h =
     let r = round binary32 false n d in
     transfer a (num r) c (den r) (num x) (num r) (den x) (den r) (den-pos x) (den-pos r)
     (sym (value-cross x false a c (held-value false a c C H))) refl
-    (le→fractions x r (held-nonneg a c C H) (round-nonneg n d D k) (round-mono binary32 a c n d C D h))
+    (le-fractions x r (held-nonneg a c C H) (round-nonneg n d D k) .0 (round-mono binary32 a c n d C D h))
 
 -- A held fraction that is at least another is at least the other rounded.
 pub rounded-below : (a c n d : ℕ) → 0 < c → 0 < d → Held a c → n ≤ 2 * d → n * c ≤ a * d
@@ -131,7 +131,7 @@ rounded-below a c n d C D H k h =
     let r = round binary32 false n d in
     transfer (num r) a (den r) c (num r) (num x) (den r) (den x) (den-pos r) (den-pos x)
     refl (sym (value-cross x false a c (held-value false a c C H)))
-    (le→fractions r x (round-nonneg n d D k) (held-nonneg a c C H) (round-mono binary32 n d a c D C h))
+    (le-fractions r x (round-nonneg n d D k) (held-nonneg a c C H) .0 (round-mono binary32 n d a c D C h))
 
 -- A fraction up to 2 is rounded to at most 2.
 pub rounded-le-two : (n d : ℕ) → 0 < d → n ≤ 2 * d → num (round binary32 false n d) ≤ 2 * den (round binary32 false n d)

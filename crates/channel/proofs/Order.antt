@@ -1,6 +1,6 @@
 -- The values from 0 up, minus zero among them, are ordered as their fractions are: the minus stands only before 0.
 use mathlib.Core.Path.{_≡_, refl, sym, ap, _∙_, subst}
-use mathlib.Core.Logic.{inl, inr}
+use mathlib.Core.Logic.{inl, inr, _↔_}
 use Prim.Native.Nat.{ℕ, _+_, _*_, _≤_, _<_}
 use native.Mathlib.Nat.{
   le-trans,
@@ -66,6 +66,10 @@ le→signed true true a b p q h =
     let z = q tt in
     either (ltb b a) (eqb a b && true) .1 (inr (and-i (eqb a b) true (eq→eqb {a = a} {b = b} (omega arith)) tt))
 
+-- ±a is at most ±b, with a minus only before 0, exactly where a ≤ b.
+signed-le : (s t : Bool) (a b : ℕ) → (T s → a ≡ 0) → (T t → b ≡ 0) → T (below s a t b || level s a t b) ↔ (a ≤ b)
+signed-le s t a b p q = (signed→le s t a b p q, le→signed s t a b p q)
+
 -- A product is 0 where its first factor is.
 pub zero-size : (m u d : ℕ) → m ≡ 0 → m * u * d ≡ 0
 zero-size m u d z = ap (λ (x : ℕ). x * u * d) z ∙ ap (λ (x : ℕ). x * d) (zero-mul u) ∙ zero-mul d
@@ -75,31 +79,20 @@ pub size-zero : (m u : ℕ) → 0 < u → m * u ≡ 0 → m ≡ 0
 size-zero m u h e = elim (eq-zero-or-pos m) [ inl z ↦ z | inr p ↦ let k = mul-pos p h in omega arith ]
 
 -- The order of two values is that of their fractions.
-pub le→fractions : (x y : Float) → NonNegative x → NonNegative y → T (le x y) → num x * den y ≤ num y * den x
+pub le-fractions : (x y : Float) → NonNegative x → NonNegative y → T (le x y) ↔ (num x * den y ≤ num y * den x)
 unfolding le
-le→fractions nan y p q h = absurd p
-le→fractions (inf s) y p q h = absurd p
-le→fractions (fin s m e) nan p q h = absurd q
-le→fractions (fin s m e) (inf t) p q h = absurd q
-le→fractions (fin s m e) (fin t n d) p q h =
-    signed→le s t (m * up e * down d) (n * up d * down e)
-    (λ k. zero-size m (up e) (down d) (p k)) (λ k. zero-size n (up d) (down e) (q k)) h
-
--- The other way round.
-pub fractions→le : (x y : Float) → NonNegative x → NonNegative y → num x * den y ≤ num y * den x → T (le x y)
-unfolding le
-fractions→le nan y p q h = absurd p
-fractions→le (inf s) y p q h = absurd p
-fractions→le (fin s m e) nan p q h = absurd q
-fractions→le (fin s m e) (inf t) p q h = absurd q
-fractions→le (fin s m e) (fin t n d) p q h =
-    le→signed s t (m * up e * down d) (n * up d * down e)
-    (λ k. zero-size m (up e) (down d) (p k)) (λ k. zero-size n (up d) (down e) (q k)) h
+le-fractions nan y p q = absurd p
+le-fractions (inf s) y p q = absurd p
+le-fractions (fin s m e) nan p q = absurd q
+le-fractions (fin s m e) (inf t) p q = absurd q
+le-fractions (fin s m e) (fin t n d) p q =
+    signed-le s t (m * up e * down d) (n * up d * down e)
+    (λ k. zero-size m (up e) (down d) (p k)) (λ k. zero-size n (up d) (down e) (q k))
 
 -- Two values in order, either way.
 pub le-or-ge : (x y : Float) → NonNegative x → NonNegative y → T (not (le x y)) → num y * den x ≤ num x * den y
 le-or-ge x y p q n =
-    le-of-lt (lt-of-not-le (λ (g : num x * den y ≤ num y * den x). T-not (le x y) n (fractions→le x y p q g)))
+    le-of-lt (lt-of-not-le (λ (g : num x * den y ≤ num y * den x). T-not (le x y) n (le-fractions x y p q .1 g)))
 
 -- A finite value that 0 is at most.
 pub from-zero : (s : Bool) (m : ℕ) (e : ℤ) → T (le zero32 (fin s m e)) → T s → m ≡ 0
@@ -122,7 +115,7 @@ pub range-le-one : (v : Float) → T (inRange v) → num v ≤ den v
 unfolding inRange
 range-le-one v h =
     let l = and-r (le zero32 v) (le v one32) h in
-    omega (arith, le→fractions v one32 (range-nonneg v h) (λ k. absurd k) l)
+    omega (arith, le-fractions v one32 (range-nonneg v h) (λ k. absurd k) .0 l)
 
 -- A value that is not below 0 and whose fraction is at most 1 lies from 0 to 1.
 pub range-of : (v : Float) → NonNegative v → num v ≤ den v → T (inRange v)
@@ -130,7 +123,8 @@ unfolding inRange
 range-of v p h =
     let a : 0 * den v ≤ num v * 1 = omega arith in
     let b : num v * 1 ≤ 1 * den v = omega arith in
-    and-i (le zero32 v) (le v one32) (fractions→le zero32 v (λ k. refl) p a) (fractions→le v one32 p (λ k. absurd k) b)
+    and-i (le zero32 v) (le v one32) (le-fractions zero32 v (λ k. refl) p .1 a)
+    (le-fractions v one32 p (λ k. absurd k) .1 b)
 
 -- A channel from 0 to 1 is no NaN.
 pub range-no-nan : (v : Float) → T (inRange v) → T (not (isNan v))

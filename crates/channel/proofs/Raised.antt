@@ -1,5 +1,5 @@
--- A channel up to 1/128 is raised to 1/128: both are in cell 0. The raised channel has no minus, and its exponent's field
--- is 120 to 127.
+-- A dark channel is raised to 1/128: both are in cell 0. The raised channel has no minus, and its exponent's field is 120
+-- to 127.
 use mathlib.Core.Path.{_≡_, sym, ap, subst}
 use Prim.Native.Nat.{ℕ, zero, suc, _-_, _*_, _/_, _^_, _≤_, _<_}
 use native.Mathlib.Nat.{
@@ -19,17 +19,14 @@ use native.Mathlib.Nat.{
 }
 use native.Mathlib.Omega.{arith}
 use mathlib.Core.Bool.{Bool, true, false, not}
-use lib.IntN.{negsuc}
 use lib.Dec.{T, lit≤, lit<}
 use lib.Pow.{pow-pos, pow-mono}
-use lib.Ieee.{Float, fin, binary32, le, toBits, fits}
+use lib.Ieee.{Float, binary32, le, toBits, fits}
 use lib.Ieee.Positive.{num, den, den-pos}
 use Rattle.channel.specs.Channel.{inRange}
 use Rattle.channel.specs.Coordinate.{Owns}
 use Rattle.channel.proofs.Order.{
-  NonNegative,
-  le→fractions,
-  fractions→le,
+  le-fractions,
   le-or-ge,
   range-nonneg,
   fraction-le-one,
@@ -46,53 +43,62 @@ use Rattle.channel.proofs.Bits.{
 }
 use Rattle.channel.proofs.Owns.{owns-unique}
 
--- The f32 value 1/128.
-abbrev pub small32 : Float
-small32 = fin false 1 (negsuc 6)
-
 -- A side up to 64 is a factor of at most 63.
 pub factor-le : (S : ℕ) → S ≤ 64 → S - 1 ≤ 63
 factor-le S h = omega arith
 
--- A channel up to 1/128 is in cell 0.
-low-owns : (v : Float) (S : ℕ) → T (inRange v) → T (le v small32) → S ≤ 64 → Owns 0 (num v * (S - 1)) (den v)
-low-owns v S h l g =
-    let p = le→fractions v small32 (range-nonneg v h) (λ k. absurd k) l in
-    let q : num v * (S - 1) ≤ num v * 63 = mul-le-mul-left (num v) (factor-le S g) in
-    let d = den-pos v in
+-- A value of which 63 times is at most a half is in cell 0 at every side.
+dark-owns : (n d S : ℕ) → 0 < d → n * 126 ≤ d → S ≤ 64 → Owns 0 (n * (S - 1)) d
+dark-owns n d S D h g =
+    let q : n * (S - 1) ≤ n * 63 = mul-le-mul-left n (factor-le S g) in
     record { above = omega arith; upTo = omega arith }
+
+-- So is a value up to it.
+dark-below : (n d p q : ℕ) → 0 < q → n * q ≤ p * d → p * 126 ≤ q → n * 126 ≤ d
+dark-below n d p q Q l h =
+    let a : p * 126 * d ≤ q * d = mul-le-mul-right d h in
+    le-of-mul-le-mul-right {m = n * 126} {n = d} (omega arith) Q
+
+-- A value from one that is from 1/128 is from 1/128.
+from-above : (n d p q : ℕ) → 0 < q → q ≤ p * 128 → p * d ≤ n * q → d ≤ n * 128
+from-above n d p q Q h l =
+    let a : q * d ≤ p * 128 * d = mul-le-mul-right d h in
+    le-of-mul-le-mul-right {m = d} {n = n * 128} (omega arith) Q
 
 -- A channel v is raised to u, a channel from 1/128 in the same cell.
 pub record Raised (v u : Float) : Type 0 where
+  pub large : den u ≤ num u * 128
   pub held : T (fits binary32 u)
   pub range : T (inRange u)
-  pub large : T (le small32 u)
   pub cell : (c S : ℕ) → S ≤ 64 → Owns c (num u * (S - 1)) (den u) → Owns c (num v * (S - 1)) (den v)
 
--- A channel up to 1/128 is raised to it.
-pub raised-small : (v : Float) → T (inRange v) → le v small32 ≡ true → Raised v small32
-unfolding fits le inRange
-raised-small v h e =
-    let l = subst T (sym e) tt in
-    record {
-      held = tt;
-      range = tt;
-      large = tt;
+-- A channel up to k is raised to k, if k is from 1/128 and 63 × k at most a half.
+pub raised-small : {u k : Float} (v : Float) → u ≡ k → den k ≤ num k * 128 → T (fits binary32 k) → T (inRange k)
+    → num k * 126 ≤ den k → T (inRange v) → le v k ≡ true → Raised v u
+raised-small {k} v w l F r b h e =
+    let p = le-fractions v k (range-nonneg v h) (range-nonneg k r) .0 (subst T (sym e) tt) in
+    let a = dark-below (num v) (den v) (num k) (den k) (den-pos k) p b in
+    rw w
+    (record {
+      large = l;
+      held = F;
+      range = r;
       cell =
           λ c S g o.
           subst (λ (z : ℕ). Owns z (num v * (S - 1)) (den v))
-          (owns-unique 0 c (num small32 * (S - 1)) (den small32) (low-owns small32 S tt tt g) o) (low-owns v S h l g);
-    }
+          (owns-unique 0 c (num k * (S - 1)) (den k) (dark-owns (num k) (den k) S (den-pos k) b g) o)
+          (dark-owns (num v) (den v) S (den-pos v) a g);
+    })
 
--- Any other stays.
-pub raised-large : (v : Float) → T (fits binary32 v) → T (inRange v) → le v small32 ≡ false → Raised v v
-raised-large v F h e =
-    let p = range-nonneg v h in
-    let q : NonNegative small32 = λ k. absurd k in
+-- A channel above k stays, if k is from 1/128.
+pub raised-large : (v k : Float) → le v k ≡ false → den k ≤ num k * 128 → T (inRange k) → T (fits binary32 v) → T (inRange v)
+    → Raised v v
+raised-large v k e l r F h =
+    let a = le-or-ge v k (range-nonneg v h) (range-nonneg k r) (subst (λ (b : Bool). T (not b)) (sym e) tt) in
     record {
+      large = from-above (num v) (den v) (num k) (den k) (den-pos k) l a;
       held = F;
       range = h;
-      large = fractions→le small32 v q p (le-or-ge v small32 p q (subst (λ (b : Bool). T (not b)) (sym e) tt));
       cell = λ c S g o. o;
     }
 
@@ -122,12 +128,9 @@ from-small n d q D h l e =
     let k : d * D ≤ n * 128 * D = mul-le-mul-right D l in
     le-of-mul-le-mul-right {m = D} {n = q} (omega arith) h
 
-module _ (u : Float) (F : T (fits binary32 u)) (h : T (inRange u)) (l : T (le small32 u)) where
-  -- Its fraction.
-  large-fraction : den u ≤ num u * 128
-  large-fraction = omega (arith, le→fractions small32 u (λ k. absurd k) (range-nonneg u h) l)
-
-  -- Its field is at least 120.
+-- The exponent's field of a channel from 1/128.
+module _ (u : Float) (F : T (fits binary32 u)) (h : T (inRange u)) (l : den u ≤ num u * 128) where
+  -- It is at least 120.
   pub field-ge : 120 ≤ exponentField (toBits binary32 u)
   field-ge =
       let b = toBits binary32 u in
@@ -135,9 +138,9 @@ module _ (u : Float) (F : T (fits binary32 u)) (h : T (inRange u)) (l : T (le sm
       (lt-of-not-le
       (λ (k : exponentField b < 120).
       not-le-of-lt (units-lt b k)
-      (from-small (num u) (den u) (units b) (2 ^ 142) (den-pos u) large-fraction (bits-value u F (range-nonneg u h)))))
+      (from-small (num u) (den u) (units b) (2 ^ 142) (den-pos u) l (bits-value u F (range-nonneg u h)))))
 
-  -- Its field is at most 127.
+  -- It is at most 127.
   pub field-le : exponentField (toBits binary32 u) ≤ 127
   field-le =
       let b = toBits binary32 u in
@@ -146,9 +149,9 @@ module _ (u : Float) (F : T (fits binary32 u)) (h : T (inRange u)) (l : T (le sm
       (λ (k : 128 ≤ exponentField b).
       above-one (exponentField b) b k (fraction-le-one u (units b) (2 ^ 149) (bits-value u F (range-nonneg u h)) h)))
 
-  -- It is above 0, so its field is all of the pattern above the fraction's.
+  -- The channel is above 0, so the field is all of the pattern above the fraction's.
   pub field-is : exponentField (toBits binary32 u) ≡ toBits binary32 u / 8388608
   field-is =
       let d = den-pos u in
-      let p : 0 < num u = omega (arith, large-fraction) in
+      let p : 0 < num u = omega arith in
       ap (λ (z : ℕ). z / 8388608) (mod-eq-of-lt (bits-plus u F (range-nonneg u h) p))

@@ -1,8 +1,7 @@
 -- A channel has no refusal exactly where it lies from 0 to 1: past 31 it is finite, and past 32 neither below 0 nor above
 -- 1.
-use mathlib.Core.Path.{_≡_, refl, sym, _∙_, subst}
+use mathlib.Core.Path.{_≡_, refl, sym, subst}
 use mathlib.Core.Bool.{Bool, true, false, _&&_}
-use mathlib.Core.List.{[], _∷_}
 use Prim.Native.Nat.{_+_, _*_, _≤_}
 use native.Mathlib.Omega.{arith}
 use borrow.Author.Tests.{ltb-false, le-ltb, not-false}
@@ -10,9 +9,9 @@ use lib.Dec.{T}
 use lib.Ieee.{Float, nan, inf, fin, up, down, lt}
 use lib.Ieee.Fits.{up-pos}
 use lib.Ieee.Scale.{finite}
-use Rattle.decide.specs.Refusal.{_when_, firstThat, accepted}
+use Rattle.decide.specs.Refusal.{firstThat, accepted}
 use Rattle.decide.proofs.Truth.{both-false}
-use Rattle.decide.proofs.Refusal.{first-passes, first-empty, accepted-passes}
+use Rattle.decide.proofs.Refusal.{accepted-none}
 use Rattle.channel.specs.Channel.{zero32, one32, inRange, infiniteOrNan, outside, channelRefusals}
 use Rattle.channel.proofs.Order.{zero-size, size-zero, range-of, range-nonneg, range-le-one}
 
@@ -66,13 +65,10 @@ not-outside (fin false m e) h =
 
 -- It has no refusal.
 pub range-accepted : (v : Float) → T (inRange v) → firstThat (channelRefusals v) ≡ accepted
-range-accepted v h =
-    first-passes 31 (infiniteOrNan v) (32 when outside v ∷ []) (range-finite v h)
-    ∙ first-passes 32 (outside v) [] (not-outside v h) ∙ first-empty
+range-accepted v h = accepted-none (channelRefusals v) .1 (range-finite v h, (not-outside v h, tt))
 
 -- A channel with no refusal lies from 0 to 1.
 pub channel-in-range : (v : Float) → firstThat (channelRefusals v) ≡ accepted → T (inRange v)
 channel-in-range v h =
-    let r = accepted-passes 31 (infiniteOrNan v) (32 when outside v ∷ []) h in
-    let q = accepted-passes 32 (outside v) [] (r .1) in
-    inside v (subst T (sym (not-false (finite v) (r .0))) tt) (q .0)
+    let r = accepted-none (channelRefusals v) .0 h in
+    inside v (subst T (sym (not-false (finite v) (r .0))) tt) (r .1 .0)

@@ -16,30 +16,30 @@ use Rattle.totals.proofs.Sums.{sum-pair}
 use Rattle.totals.proofs.Numbers.{count-small, sum-small}
 use Rattle.totals.proofs.Lines.{lines-append}
 use Rattle.cube_totals.specs.declared.tally.Total.{Total}
-use Rattle.cube_totals.specs.Table.{half, word, Table, numbersOf, fourOf}
+use Rattle.cube_totals.specs.Table.{twoTo32, word, Table, numbersOf, fourOf}
 
 -- The halves of a word.
-low : (a b : ℕ) → a < half → (a + half * b) % half ≡ a
+low : (a b : ℕ) → a < twoTo32 → (a + twoTo32 * b) % twoTo32 ≡ a
 low a b l = omega arith
 
-high : (a b : ℕ) → a < half → (a + half * b) / half ≡ b
+high : (a b : ℕ) → a < twoTo32 → (a + twoTo32 * b) / twoTo32 ≡ b
 high a b l = omega arith
 
 module _ {S : ℕ} {cube table : List ℕ} (t : Table S cube table) (most : S ≤ 64) (size : length cube ≡ volume S)
     (mark : ℕ) (small : mark < 256) where
-  first : word table mark 0 ≡ count cube mark + half * sum S x-axis cube mark
+  first : word table mark 0 ≡ count cube mark + twoTo32 * sum S x-axis cube mark
   first =
-      t .holds mark 0 small (omega arith) ∙ sum-pair (λ p. 1) (λ p. cellAt S p x-axis) half mark 0 cube
+      t .holds mark 0 small (omega arith) ∙ sum-pair (λ p. 1) (λ p. cellAt S p x-axis) twoTo32 mark 0 cube
 
-  second : word table mark 1 ≡ sum S y-axis cube mark + half * sum S z-axis cube mark
+  second : word table mark 1 ≡ sum S y-axis cube mark + twoTo32 * sum S z-axis cube mark
   second =
       t .holds mark 1 small (omega arith) ∙
-      sum-pair (λ p. cellAt S p y-axis) (λ p. cellAt S p z-axis) half mark 0 cube
+      sum-pair (λ p. cellAt S p y-axis) (λ p. cellAt S p z-axis) twoTo32 mark 0 cube
 
   numbers-are : mark ∷ numbersOf table mark ≡ numbers S cube mark
   numbers-are =
-      let a : count cube mark < half = omega (arith, count-small S cube most size mark) in
-      let b : sum S y-axis cube mark < half = omega (arith, sum-small S cube most size y-axis mark) in
+      let a : count cube mark < twoTo32 = omega (arith, count-small S cube most size mark) in
+      let b : sum S y-axis cube mark < twoTo32 = omega (arith, sum-small S cube most size y-axis mark) in
       rw (
         first,
         second,

@@ -21,7 +21,7 @@ use Rattle.totals.proofs.Ranges.{sum-bounded}
 use Rattle.totals.proofs.Sums.{sum-more}
 use Rattle.totals.proofs.Numbers.{sum-at-most}
 use Rattle.cube_totals.specs.declared.tally.Row.{Row}
-use Rattle.cube_totals.specs.Table.{half, words, adds, word, Table, plus, plusAll, added, addedRow, Below}
+use Rattle.cube_totals.specs.Table.{twoTo32, words, adds, word, Table, plus, plusAll, added, addedRow, Below}
 use Rattle.cube_totals.specs.Next.{rowNumber}
 
 -- A number more at one place changes that place alone.
@@ -46,7 +46,7 @@ pub below-more : {most : ℕ} {t : List ℕ} (more : ℕ) → most ≤ more → 
 below-more more l b = record { size = b .size; small = λ i. omega (arith, b .small i) }
 
 -- Numbers side by side change their places alone.
-pub length-plus-all : (t : List ℕ) (i : ℕ) (vs : List ℕ) → length (plusAll t i vs) ≡ length t
+length-plus-all : (t : List ℕ) (i : ℕ) (vs : List ℕ) → length (plusAll t i vs) ≡ length t
 unfolding plusAll
 length-plus-all t i [] = refl
 length-plus-all t i (v ∷ vs) = length-plus-all (plus t i v) (suc i) vs ∙ length-set t i (getD t i 0 + v)
@@ -130,11 +130,11 @@ below-added {most} {t} b x y z l x-in y-in z-in below =
     let i : ℕ = 4 * b + 2 * (x % 2) in
     let rise : most + 2 ^ 39 + 2 ^ 39 ≡ most + 2 ^ 40 = omega arith in
     rw (← rise)
-    (below-plus (suc i) (y + half * z) (omega arith) (omega arith)
-    (below-plus i (1 + half * x) (omega arith) (omega arith) below))
+    (below-plus (suc i) (y + twoTo32 * z) (omega arith) (omega arith)
+    (below-plus i (1 + twoTo32 * x) (omega arith) (omega arith) below))
 
 -- The next cell of a row.
-pub row-more : (marks : List ℕ) (x : ℕ) (r : Row) (t : List ℕ) (m : ℕ) →
+row-more : (marks : List ℕ) (x : ℕ) (r : Row) (t : List ℕ) (m : ℕ) →
     addedRow (marks ++ m ∷ []) x r t ≡ added m (x + length marks) (r .y) (r .z) (addedRow marks x r t)
 unfolding addedRow
 row-more [] x r t m = rw add-zero

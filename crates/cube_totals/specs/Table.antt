@@ -9,13 +9,13 @@ use Rattle.totals.specs.Totals.{sumOver}
 use Rattle.cube_totals.specs.declared.tally.Row.{Row}
 use Rattle.cube_totals.specs.declared.tally.Total.{Total}
 
--- 2 to the 32.
-abbrev pub half : ℕ
-half = 4294967296
+-- 2 to the 32: the second number of a word counts so much.
+abbrev pub twoTo32 : ℕ
+twoTo32 = 4294967296
 
 -- What a cell adds to the two words of its mark.
 abbrev pub words : (x y z : ℕ) → List ℕ
-words x y z = (1 + half * x) ∷ (y + half * z) ∷ []
+words x y z = (1 + twoTo32 * x) ∷ (y + twoTo32 * z) ∷ []
 
 -- What the cell at byte p adds to word k.
 abbrev pub adds : (S k p : ℕ) → ℕ
@@ -33,7 +33,7 @@ pub record Table (S : ℕ) (cube table : List ℕ) : Type 0 where
 -- The four numbers of a mark.
 abbrev pub numbersOf : (table : List ℕ) (mark : ℕ) → List ℕ
 numbersOf table m =
-    word table m 0 % half ∷ word table m 0 / half ∷ word table m 1 % half ∷ word table m 1 / half ∷ []
+    word table m 0 % twoTo32 ∷ word table m 0 / twoTo32 ∷ word table m 1 % twoTo32 ∷ word table m 1 / twoTo32 ∷ []
 
 abbrev pub fourOf : Total → List ℕ
 fourOf t = t .count ∷ t .x ∷ t .y ∷ t .z ∷ []

@@ -1,4 +1,5 @@
 // The key totals of a cube: for every mark that some cell holds the count of its cells and the sums of their coordinates.
+// Open to callers: `write_totals`. `put_totals` is `pub` for the crates above.
 mod tally;
 
 ghost use mathlib.Core.Path.{_≡_};

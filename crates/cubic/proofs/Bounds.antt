@@ -48,7 +48,7 @@ module _ {Q : ℕ} {q0 q1 q2 q3 : ℤ} (e : Each Q q0 q1 q2 q3) where
   coef0-within = within-weaken (row-within (pos 1) (pos 0) (pos 0) (pos 0)) (omega arith)
 
 -- The value is within n³Q: the weights are not negative and add up to n³.
-pub value-within : {Q n i : ℕ} {q0 q1 q2 q3 : ℤ} → Each Q q0 q1 q2 q3 → i ≤ n →
+value-within : {Q n i : ℕ} {q0 q1 q2 q3 : ℤ} → Each Q q0 q1 q2 q3 → i ≤ n →
     Within (n * n * n * Q) (samples (pos n) q0 q1 q2 q3 i)
 unfolding samples blendℤ blend
 value-within {Q} {n} {i} e h =
@@ -75,7 +75,7 @@ module _ {L Q i : ℕ} {n q0 q1 q2 q3 : ℤ} (some : 1 ≤ L) (e : Each Q q0 q1 
   index = within-pos h
 
   -- The first difference is within 120L²Q.
-  pub first-within : Within (120 * (L * L * Q)) (delta 1 (samples n q0 q1 q2 q3) i)
+  first-within : Within (120 * (L * L * Q)) (delta 1 (samples n q0 q1 q2 q3) i)
   first-within =
       let f = more-factors L Q some in
       rw (first-closed n q0 q1 q2 q3 i)
@@ -89,7 +89,7 @@ module _ {L Q i : ℕ} {n q0 q1 q2 q3 : ℤ} (some : 1 ≤ L) (e : Each Q q0 q1 
       (omega arith))
 
   -- So is the second.
-  pub second-within : Within (120 * (L * L * Q)) (delta 2 (samples n q0 q1 q2 q3) i)
+  second-within : Within (120 * (L * L * Q)) (delta 2 (samples n q0 q1 q2 q3) i)
   second-within =
       let f = more-factors L Q some in
       rw (second-closed n q0 q1 q2 q3 i)
@@ -100,7 +100,7 @@ module _ {L Q i : ℕ} {n q0 q1 q2 q3 : ℤ} (some : 1 ≤ L) (e : Each Q q0 q1 
       (omega arith))
 
   -- And the third.
-  pub third-within : Within (120 * (L * L * Q)) (delta 3 (samples n q0 q1 q2 q3) i)
+  third-within : Within (120 * (L * L * Q)) (delta 3 (samples n q0 q1 q2 q3) i)
   third-within =
       let f = more-factors L Q some in
       rw (third-closed n q0 q1 q2 q3 i)

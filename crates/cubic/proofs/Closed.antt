@@ -80,7 +80,7 @@ module _ (n q0 q1 q2 q3 : ℤ) where
   after p i = ap (λ z. eval (at z) (of p (var 5))) (pos-suc i)
 
   -- The value at index i.
-  pub value-closed : (i : ℕ) → P i ≡ eval (at (pos i)) (of value (var 5))
+  value-closed : (i : ℕ) → P i ≡ eval (at (pos i)) (of value (var 5))
   unfolding samples
   value-closed i = blend-polynomial (pos i)
 

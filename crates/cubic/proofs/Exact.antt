@@ -15,19 +15,19 @@ use Rattle.cubic.proofs.Linear.{blend-scale, blend-exchange}
 
 module _ {n i : ℕ} (a b c d : ℕ) (h : i ≤ n) where
   -- On natural control values, from index 0 to n, the two blends are the same.
-  pub blend-exact : samples (pos n) (pos a) (pos b) (pos c) (pos d) i ≡ pos (blend n i a b c d)
+  blend-exact : samples (pos n) (pos a) (pos b) (pos c) (pos d) i ≡ pos (blend n i a b c d)
   unfolding samples blendℤ blend
   blend-exact = rw (← pos-sub h)
 
   -- On doubled control values, the blend is doubled.
-  pub blend-doubled :
+  blend-doubled :
       samples (pos n) (pos (2 * a)) (pos (2 * b)) (pos (2 * c)) (pos (2 * d)) i ≡ pos (2 * blend n i a b c d)
   unfolding samples
   blend-doubled =
       blend-scale (pos n) (pos i) (pos 2) (pos a) (pos b) (pos c) (pos d) ∙ ap (λ z. pos 2 *ℤ z) blend-exact
 
 -- The value of doubled points is twice the exact value.
-pub value-doubled : {ns is : List ℕ} (g : ℕ → ℕ) → Sample ns is →
+value-doubled : {ns is : List ℕ} (g : ℕ → ℕ) → Sample ns is →
     valueℤ ns (twice g) is ≡ pos (2 * value ns g is)
 unfolding valueℤ value
 value-doubled g no-index = refl
@@ -46,7 +46,7 @@ curve-doubles n g = record {
 }
 
 -- A patch's value, blended along t first and then along u.
-pub patch-value : (n m : ℕ) (g : ℕ → ℤ) (i j : ℕ) → patch n m g i j ≡ valueℤ (n ∷ m ∷ []) g (i ∷ j ∷ [])
+patch-value : (n m : ℕ) (g : ℕ → ℤ) (i j : ℕ) → patch n m g i j ≡ valueℤ (n ∷ m ∷ []) g (i ∷ j ∷ [])
 unfolding valueℤ samples points
 patch-value n m g i j =
     sym (blend-exchange (pos n) (pos i) (pos m) (pos j) g (λ k. g (4 + k)) (λ k. g (8 + k)) (λ k. g (12 + k)))
@@ -81,7 +81,7 @@ module _ (n m : ℕ) (g : ℕ → ℕ) where
         agrees = λ j hj. patch-value n m (twice g) i j ∙ value-doubled g (index hi (index hj no-index));
       }
 
--- A volume's value, blended along t, then along u, then along v.
+-- A volume's value, blended along t, then along u, then along v. Ready for document 02's A.13.
 pub volume-value : (n m l : ℕ) (g : ℕ → ℤ) (i j k : ℕ) →
     volume n m l g i j k ≡ valueℤ (n ∷ m ∷ l ∷ []) g (i ∷ j ∷ k ∷ [])
 unfolding valueℤ samples points

@@ -9,10 +9,9 @@ use Rattle.integers.specs.Magnitude.{Within}
 use Rattle.integers.proofs.Magnitude.{within-pos, within-weaken, within-mul}
 use Rattle.cubic.specs.declared.differences.Cubic.{Cubic}
 use Rattle.cubic.specs.declared.axis.Axis.{Axis}
-use Rattle.cubic.specs.Blend.{blendℤ, samples, column, patch, face, volume, twice}
+use Rattle.cubic.specs.Blend.{samples, column, patch, face, volume, twice}
 use Rattle.cubic.specs.Differences.{delta, differencesAt, along}
-use Rattle.cubic.specs.Room.{Each}
-use Rattle.cubic.specs.Room.{Level, Startable, Fields, Room, Steps}
+use Rattle.cubic.specs.Room.{Each, Level, Startable, Fields, Room, Steps}
 use Rattle.cubic.specs.Tracks.{Tracks}
 use Rattle.cubic.proofs.Bounds.{level-start, level-fields, field-within, along-fields, row-fields, slope-fields}
 
@@ -21,28 +20,28 @@ level : {L Q R : ℕ} → 1 ≤ L → L * L * L * Q ≤ R → 120 * (L * L * Q) 
 level a b c d = record { some = a; values = b; differences = c; room = d }
 
 -- A curve.
-pub curve-level : Level 512 126 16911433728
+curve-level : Level 512 126 16911433728
 curve-level = level (lit≤ tt) (lit≤ tt) (lit≤ tt) (lit≤ tt)
 
 -- A patch, from its points along one parameter, and from what that gives along the other.
-pub patch-level : Level 256 126 2113929216
+patch-level : Level 256 126 2113929216
 patch-level = level (lit≤ tt) (lit≤ tt) (lit≤ tt) (lit≤ tt)
 
-pub patch-level-2 : Level 256 2113929216 35465847065542656
+patch-level-2 : Level 256 2113929216 35465847065542656
 patch-level-2 = level (lit≤ tt) (lit≤ tt) (lit≤ tt) (lit≤ tt)
 
--- A volume, along the first, the second and the third parameter.
-pub volume-level : Level 32 126 15482880
+-- A volume (A.13), along the first, the second and the third parameter.
+volume-level : Level 32 126 15482880
 volume-level = level (lit≤ tt) (lit≤ tt) (lit≤ tt) (lit≤ tt)
 
-pub volume-level-2 : Level 32 15482880 1902536294400
+volume-level-2 : Level 32 15482880 1902536294400
 volume-level-2 = level (lit≤ tt) (lit≤ tt) (lit≤ tt) (lit≤ tt)
 
-pub volume-level-3 : Level 32 1902536294400 233783659855872000
+volume-level-3 : Level 32 1902536294400 233783659855872000
 volume-level-3 = level (lit≤ tt) (lit≤ tt) (lit≤ tt) (lit≤ tt)
 
 -- Fields within the bound of a level leave room.
-pub fields-room : {L Q R : ℕ} {c : Cubic} → Level L Q R → Fields R c → Room c
+fields-room : {L Q R : ℕ} {c : Cubic} → Level L Q R → Fields R c → Room c
 fields-room l b = record {
   value = within-weaken (b .value) (l .room);
   d1 = within-weaken (b .d1) (l .room);
@@ -100,11 +99,6 @@ module _ {n m : ℕ} (g : ℕ → ℕ) (hn : n ≤ 256) (hm : m ≤ 256) (hg : (
   columns : (k : ℕ) → k < 4 → (i : ℕ) → i ≤ n → Fields 2113929216 (differencesAt (col k) i)
   columns k h i hi = level-fields patch-level (controls k h) hn hi
 
-  -- Each column starts along t.
-  pub patch-start : (k : ℕ) → k < 4 →
-      Startable (pos n) (pos (2 * g k)) (pos (2 * g (4 + k))) (pos (2 * g (8 + k))) (pos (2 * g (12 + k)))
-  patch-start k h = level-start patch-level (controls k h) hn
-
   -- The columns' values, and their differences of each order, start along u.
   pub patch-start-along : (k : ℕ) → k < 4 →
       Startable (pos m) (delta k (col 0) 0) (delta k (col 1) 0) (delta k (col 2) 0) (delta k (col 3) 0)
@@ -140,7 +134,8 @@ module _ {n m : ℕ} (g : ℕ → ℕ) (hn : n ≤ 256) (hm : m ≤ 256) (hg : (
         (slope-fields (col 0) (col 1) (col 2) (col 3) i patch-level-2 hm hj
         (columns 0 (lit< tt) i hi) (columns 1 (lit< tt) i hi) (columns 2 (lit< tt) i hi) (columns 3 (lit< tt) i hi))
 
--- A volume: starts along each of three parameters, from the points and from what the starts before give.
+-- A volume, ready for document 02's A.13: starts along each of three parameters, from the points and from what the
+-- starts before give.
 module _ {n : ℕ} {q0 q1 q2 q3 : ℤ} (hn : n ≤ 32) where
   pub volume-start : Each 126 q0 q1 q2 q3 → Startable (pos n) q0 q1 q2 q3
   volume-start e = level-start volume-level e hn
@@ -151,7 +146,7 @@ module _ {n : ℕ} {q0 q1 q2 q3 : ℤ} (hn : n ≤ 32) where
   pub volume-start-3 : Each 1902536294400 q0 q1 q2 q3 → Startable (pos n) q0 q1 q2 q3
   volume-start-3 e = level-start volume-level-3 e hn
 
--- Each line along t goes on, from sample 0 to sample n.
+-- For A.13 too: each line along t goes on, from sample 0 to sample n.
 module _ {n m l i j k : ℕ} (g : ℕ → ℕ) (hn : n ≤ 32) (hm : m ≤ 32) (hl : l ≤ 32) (hi : i ≤ n) (hj : j ≤ m) (hk : k ≤ l)
     (hg : (p : ℕ) → p < 64 → g p ≤ 63) where
   abbrev edge : ℕ → ℕ → ℤ
@@ -177,12 +172,3 @@ module _ {n m l i j k : ℕ} (g : ℕ → ℕ) (hn : n ≤ 32) (hm : m ≤ 32) (
       fields-room volume-level-3
       (row-fields (line 0) (line 1) (line 2) (line 3) i volume-level-3 hl hk
       (lines 0 (lit< tt)) (lines 1 (lit< tt)) (lines 2 (lit< tt)) (lines 3 (lit< tt)))
-
--- The limits are met: a curve with n = 512 and a patch with n = m = 256 start from points that are all 63. The second
--- start of the patch is from its columns' values, 126 × 256³.
-pub limit-curve : Startable (pos 512) (pos 126) (pos 126) (pos 126) (pos 126)
-limit-curve = curve-start (lit≤ tt) (each-doubled {a = 63} {b = 63} {c = 63} {d = 63} (lit≤ tt) (lit≤ tt) (lit≤ tt) (lit≤ tt))
-
-pub limit-patch : Startable (pos 256) (pos 2113929216) (pos 2113929216) (pos 2113929216) (pos 2113929216)
-unfolding delta samples blendℤ
-limit-patch = patch-start-along {n = 256} {m = 256} (λ k. 63) (lit≤ tt) (lit≤ tt) (λ k h. lit≤ tt) 0 (lit< tt)

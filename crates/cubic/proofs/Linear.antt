@@ -3,7 +3,7 @@
 use mathlib.Core.Path.{_≡_, refl, sym, _∙_, ap₂}
 use mathlib.Core.List.{List, [], _∷_}
 use Prim.Native.Nat.{ℕ, zero, suc, _+_}
-use lib.IntN.{ℤ, pos, _+ℤ_, _-ℤ_, _*ℤ_}
+use lib.IntN.{ℤ, pos, _-ℤ_, _*ℤ_}
 use Rattle.integers.proofs.Ring.{Expr, var, con, _⊕_, _⊖_, _⊗_, solve}
 use Rattle.cubic.specs.Blend.{blendℤ}
 use Rattle.cubic.specs.Differences.{delta}
@@ -31,15 +31,8 @@ module _ (n i : ℤ) where
     abbrev ρ : List ℤ
     ρ = w0 n i ∷ w1 n i ∷ w2 n i ∷ w3 n i ∷ a ∷ b ∷ c ∷ d ∷ a′ ∷ b′ ∷ c′ ∷ d′ ∷ []
 
-    -- The blend of sums is the sum of the blends.
-    pub blend-add : blendℤ n i (a +ℤ a′) (b +ℤ b′) (c +ℤ c′) (d +ℤ d′) ≡ blendℤ n i a b c d +ℤ blendℤ n i a′ b′ c′ d′
-    unfolding blendℤ
-    blend-add =
-        solve ρ (weighted 0 (var 4 ⊕ var 8) (var 5 ⊕ var 9) (var 6 ⊕ var 10) (var 7 ⊕ var 11))
-        (weighted 0 (var 4) (var 5) (var 6) (var 7) ⊕ weighted 0 (var 8) (var 9) (var 10) (var 11)) tt
-
     -- The blend of differences is the difference of the blends.
-    pub blend-sub : blendℤ n i (a -ℤ a′) (b -ℤ b′) (c -ℤ c′) (d -ℤ d′) ≡ blendℤ n i a b c d -ℤ blendℤ n i a′ b′ c′ d′
+    blend-sub : blendℤ n i (a -ℤ a′) (b -ℤ b′) (c -ℤ c′) (d -ℤ d′) ≡ blendℤ n i a b c d -ℤ blendℤ n i a′ b′ c′ d′
     unfolding blendℤ
     blend-sub =
         solve ρ (weighted 0 (var 4 ⊖ var 8) (var 5 ⊖ var 9) (var 6 ⊖ var 10) (var 7 ⊖ var 11))

@@ -10,7 +10,7 @@ use Rattle.cubic.specs.Differences.{delta, differencesAt, headsOf, slope
 use Rattle.cubic.proofs.Linear.{delta-blend, delta-sub, blend-zero}
 
 -- Structs with equal fields are equal.
-same-fields : {v w a b c d x y : ℤ} → v ≡ w → a ≡ b → c ≡ d → x ≡ y →
+pub same-fields : {v w a b c d x y : ℤ} → v ≡ w → a ≡ b → c ≡ d → x ≡ y →
     _≡_ {A = Cubic} (record { value = v; d1 = a; d2 = c; d3 = x }) (record { value = w; d1 = b; d2 = d; d3 = y })
 same-fields p q r s = rw (p, q, r, s)
 

@@ -10,9 +10,9 @@ use lib.IntN.{ℤ, pos, _+ℤ_, _-ℤ_, _*ℤ_, +ℤ-idl}
 use lib.Signed.{ltZ, _<ℤ_, _≤ℤ_}
 use Rattle.integers.specs.Magnitude.{Within}
 use Rattle.integers.proofs.Difference.{val-of, zval}
-use Rattle.integers.proofs.Magnitude.{within-upper}
+use Rattle.integers.proofs.Magnitude.{within-upper, within-lower}
 use Rattle.integers.proofs.Test.{ltZ-true, ltZ-false, le-ltZ}
-use Rattle.walk.specs.Walk.{withinHalf, move, walk}
+use Rattle.walk.specs.Walk.{withinHalf, move}
 use Rattle.walk.specs.Steps.{farApart}
 use Rattle.walk.proofs.Half.{within-half}
 use Rattle.walk.proofs.Move.{move-stays, move-up, move-down}
@@ -39,10 +39,6 @@ module _ (x : ℤ) (s A B : ℕ) where
 
   within : x +ℤ pos A ≡ pos B → Within s x ↔ ((B ≤ A + s) × (A ≤ B + s))
   within = rw (val-of x) (simp zval (omega arith))
-
--- The lower end, as the machine compares with it.
-lower-end : {s : ℕ} {x : ℤ} → Within s x → (pos 0 -ℤ pos s) ≤ℤ x
-lower-end {x} = rw (val-of x) (simp zval (omega arith))
 
 -- One cell up and one cell down.
 module _ (h x : ℤ) (s c : ℕ) where
@@ -89,7 +85,7 @@ row-tracks m f0 f1 f2 f3 j t e1 e2 e3 = record {
 
 module _ {s : ℕ} {h : ℤ} {P : ℕ → ℤ} {i c : ℕ} {a : Axis} (t : Tracks s h P i c a) where
   -- The next value and differences, with the coordinate as it was.
-  pub next-tracks : IsCubic P → Tracks s h P (suc i) c (record { at = a .at; cubic = nextOf (a .cubic) })
+  next-tracks : IsCubic P → Tracks s h P (suc i) c (record { at = a .at; cubic = nextOf (a .cubic) })
   unfolding nextOf delta
   next-tracks q = record {
     place = t .place;
@@ -154,7 +150,7 @@ module _ {s : ℕ} {h : ℤ} {P : ℕ → ℤ} {i c : ℕ} {a : Axis} (t : Track
 -- From -N to N, both ends included, nothing moves.
 pub settle-stays : (s : ℕ) (h : ℤ) (a : Axis) → Within s (a .cubic .value) → settleOf (pos s) h a ≡ a
 unfolding settleOf
-settle-stays s h a b = rw (le-ltZ (within-upper b), le-ltZ (lower-end b))
+settle-stays s h a b = rw (le-ltZ (within-upper b), le-ltZ (within-lower b))
 
 module _ {n s : ℕ} {h : ℤ} {f : ℕ → ℕ} {P : ℕ → ℤ} (d : Doubles n f P) {i : ℕ} (l : i < n) where
   -- A step follows the walk.
@@ -162,12 +158,6 @@ module _ {n s : ℕ} {h : ℤ} {f : ℕ → ℕ} {P : ℕ → ℤ} (d : Doubles 
       Tracks s h P (suc i) (move s c (f (suc i))) (stepOf (pos s) h a)
   unfolding stepOf
   step-tracks t = settle-tracks (next-tracks t (d .cubic)) (f (suc i)) (d .agrees (suc i) l)
-
-  -- The same from the walk's cell at i to its cell at i + 1.
-  pub step-walks : (g : ℕ) {a : Axis} → Tracks s h P i (walk s f g i) a →
-      Tracks s h P (suc i) (walk s f g (suc i)) (stepOf (pos s) h a)
-  unfolding walk
-  step-walks g t = step-tracks t
 
   -- From within half a cell, and with no long step, the remainder after the move is from -N to N.
   pub step-half : {c : ℕ} {a : Axis} → Tracks s h P i c a → T (withinHalf s c (f i)) →

@@ -114,6 +114,14 @@ first-append (r ∷ a) b = by-test (r .applies) (first-append a b)
     by-test true e = refl
     by-test false e = e
 
+-- So a number of the first is the answer,
+pub append-refused : (a b : List Rule) {k : ℕ} → firstThat a ≡ refused k → firstThat (a ++ b) ≡ refused k
+append-refused a b e = first-append a b ∙ ap (λ v. orElse v (firstThat b)) e
+
+-- and past a first that has none, it is the second's.
+pub append-passes : (a b : List Rule) → firstThat a ≡ accepted → firstThat (a ++ b) ≡ firstThat b
+append-passes a b e = first-append a b ∙ ap (λ v. orElse v (firstThat b)) e
+
 both-accepted : (v w : Verdict) → orElse v w ≡ accepted → (v ≡ accepted) × (w ≡ accepted)
 both-accepted accepted w e = (refl, e)
 both-accepted (refused k) w e = (e, cc)

@@ -18,7 +18,7 @@ use Rattle.walk.proofs.Long.{too-long}
 use Rattle.cube.specs.Cube.{Axis, volume}
 use Rattle.drawing.specs.Object.{Object, scaleOf, exact}
 use Rattle.drawing.specs.Refusals.{countOut, coordinateOut, stepsTooLong, order, drawVerdict, listVerdict}
-use Rattle.drawing.specs.Refusals.{checkVerdict, sampleCount, Drawable}
+use Rattle.drawing.specs.Refusals.{sampleCount, Drawable}
 use Rattle.cube.proofs.Words.{side-in, some-axis}
 
 -- 13 does not apply to a count.
@@ -126,8 +126,3 @@ module _ (S : ℕ) (o : Object) where
         λ w. order-accepted false false (ltb len room) .1
             (w .0, refl, refl, false-of (ltb len room) (λ t. omega (arith, less len room .0 t, w .1))),
       )
-
-  -- A check finds nothing exactly where the object is drawable.
-  pub check-accepted : (checkVerdict S o ≡ accepted) ↔ Drawable S o
-  unfolding checkVerdict
-  check-accepted = (λ e. order-accepted false false false .0 e .0, λ d. order-accepted false false false .1 (d, refl, refl, refl))

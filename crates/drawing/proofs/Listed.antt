@@ -32,7 +32,7 @@ front-bytes c cs y-axis = refl
 front-bytes c cs z-axis = refl
 
 -- The bytes of cell k.
-pub bytes-at : (cs : List Cell) (d : Cell) (k : ℕ) (a : Axis) → k < length cs →
+bytes-at : (cs : List Cell) (d : Cell) (k : ℕ) (a : Axis) → k < length cs →
     getD (bytes cs) (3 * k + offset a) 0 ≡ getD cs k d a
 unfolding bytes
 bytes-at [] d k a h = absurd (omega arith)

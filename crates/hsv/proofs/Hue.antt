@@ -1,6 +1,6 @@
 -- A hue in range: its whole part is 0 to 5, and the fractional part is exact and from 0 to below 1.
 use mathlib.Core.Path.{_≡_, refl, sym, ap, _∙_}
-use Prim.Native.Nat.{ℕ, zero, suc, _+_, _-_, _*_, _/_, _^_, _≤_, _<_}
+use Prim.Native.Nat.{ℕ, zero, suc, _+_, _-_, _*_, _^_, _≤_, _<_}
 use native.Mathlib.Nat.{
   le-of-lt,
   le-of-suc-le-suc,
@@ -36,58 +36,47 @@ use lib.Ieee.Positive.{num, den, den-pos}
 use Rattle.decide.proofs.Truth.{true-of}
 use Rattle.channel.specs.Channel.{inRange, zero32, one32}
 use Rattle.channel.proofs.Order.{NonNegative, from-zero, zero-size, range-nonneg, value-nonneg, value-cross}
-use Rattle.channel.proofs.Bits.{exponentField, fractionField, significand, exponent, significand-lt, units, bits-value}
+use Rattle.channel.proofs.Bits.{exponentField, fractionField, significand, exponent, significand-lt, bits-value}
 use Rattle.channel.proofs.Held.{Held}
 use Rattle.hsv.specs.Hue.{hueInRange, six32}
 use Rattle.hsv.specs.Channels.{wholePart, fractionalPart}
 use Rattle.hsv.proofs.Rounds.{held-times, sub-rounds, sub-range, rounds-exact}
 
 -- ---- The order of a value from 0 up and a whole number, as `lt` finds it.
--- ±a below b, with a minus only before 0, says that a < b.
-signed-below : (s : Bool) (a b : ℕ) → (T s → a ≡ 0) → below s a false b ≡ true → a < b
-signed-below true a b p e = let z = p tt in let l = ltb-true 0 (a + b) e in omega arith
-signed-below false a b p e = ltb-true a b e
+-- What a test of a against b tells: a < b where it holds, and b ≤ a where not.
+abbrev pub Told : (answer : Bool) (a b : ℕ) → Type 0
+Told true a b = a < b
+Told false a b = b ≤ a
 
--- The other way round.
-signed-from : (s : Bool) (a b : ℕ) → (T s → a ≡ 0) → below s a false b ≡ false → b ≤ a
-signed-from true a b p e = let l = ltb-false 0 (a + b) e in omega arith
-signed-from false a b p e = ltb-false a b e
+-- The test of ±a against b, with a minus only before 0.
+signed-told : (s r : Bool) (a b : ℕ) → (T s → a ≡ 0) → below s a false b ≡ r → Told r a b
+signed-told true true a b p e = let z = p tt in let l = ltb-true 0 (a + b) e in omega arith
+signed-told true false a b p e = let l = ltb-false 0 (a + b) e in omega arith
+signed-told false true a b p e = ltb-true a b e
+signed-told false false a b p e = ltb-false a b e
 
--- Where U / D is the whole number c.
-cross-lt : (n d U D c : ℕ) → U * 1 ≡ c * D → n * D < U * d → n < c * d
-cross-lt n d U D c e h =
+-- The order of n / d and U / D, where U / D is the whole number c.
+cross-told : (r : Bool) (n d U D c : ℕ) → 0 < D → U * 1 ≡ c * D → Told r (n * D) (U * d) → Told r n (c * d)
+cross-told true n d U D c p e h =
     let a : U * 1 * d ≡ c * D * d = ap (λ (z : ℕ). z * d) e in
     lt-of-mul-lt-mul-right D (omega arith)
-
-cross-le : (n d U D c : ℕ) → 0 < D → U * 1 ≡ c * D → U * d ≤ n * D → c * d ≤ n
-cross-le n d U D c p e h =
+cross-told false n d U D c p e h =
     let a : U * 1 * d ≡ c * D * d = ap (λ (z : ℕ). z * d) e in
     let b : c * d * D ≤ n * D = omega arith in
     le-of-mul-le-mul-right b p
 
--- Below a whole number c that is the f32 x.
-pub below-whole : (h x : Float) (c : ℕ) → NonNegative h → HasValue x false c 1 → lt h x ≡ true → num h < c * den h
+-- The test of h against a whole number c that is the f32 x.
+pub whole-told : (h x : Float) (c : ℕ) (r : Bool) → NonNegative h → HasValue x false c 1 → lt h x ≡ r
+    → Told r (num h) (c * den h)
 unfolding lt
-below-whole nan x c p v e = absurd p
-below-whole (inf s) x c p v e = absurd p
-below-whole (fin s m g) nan c p v e = absurd v
-below-whole (fin s m g) (inf t) c p v e = absurd v
-below-whole (fin s m g) (fin true n d) c p v e = absurd (true≢false (v .0))
-below-whole (fin s m g) (fin false n d) c p v e =
-    cross-lt (m * up g) (down g) (n * up d) (down d) c (v .1)
-    (signed-below s (m * up g * down d) (n * up d * down g) (λ k. zero-size m (up g) (down d) (p k)) e)
-
--- At least a whole number c that is the f32 x.
-pub from-whole : (h x : Float) (c : ℕ) → NonNegative h → HasValue x false c 1 → lt h x ≡ false → c * den h ≤ num h
-unfolding lt
-from-whole nan x c p v e = absurd p
-from-whole (inf s) x c p v e = absurd p
-from-whole (fin s m g) nan c p v e = absurd v
-from-whole (fin s m g) (inf t) c p v e = absurd v
-from-whole (fin s m g) (fin true n d) c p v e = absurd (true≢false (v .0))
-from-whole (fin s m g) (fin false n d) c p v e =
-    cross-le (m * up g) (down g) (n * up d) (down d) c (down-pos d) (v .1)
-    (signed-from s (m * up g * down d) (n * up d * down g) (λ k. zero-size m (up g) (down d) (p k)) e)
+whole-told nan x c r p v e = absurd p
+whole-told (inf s) x c r p v e = absurd p
+whole-told (fin s m g) nan c r p v e = absurd v
+whole-told (fin s m g) (inf t) c r p v e = absurd v
+whole-told (fin s m g) (fin true n d) c r p v e = absurd (true≢false (v .0))
+whole-told (fin s m g) (fin false n d) c r p v e =
+    cross-told r (m * up g) (down g) (n * up d) (down d) c (down-pos d) (v .1)
+    (signed-told s r (m * up g * down d) (n * up d * down g) (λ k. zero-size m (up g) (down d) (p k)) e)
 
 -- ---- The whole part and the fractional part.
 -- A hue in range is finite, and not below 0.
@@ -102,7 +91,7 @@ hue-nonneg (fin s m e) u = from-zero s m e (and-l (le zero32 (fin s m e)) (lt (f
 pub hue-below-six : (h : Float) → T (hueInRange h) → num h < 6 * den h
 unfolding hueInRange
 hue-below-six h u =
-    below-whole h six32 6 (hue-nonneg h u) (refl, refl) (true-of (lt h six32) (and-r (le zero32 h) (lt h six32) u))
+    whole-told h six32 6 true (hue-nonneg h u) (refl, refl) (true-of (lt h six32) (and-r (le zero32 h) (lt h six32) u))
 
 -- k is 0 to 5.
 pub whole-part-le-five : (h : Float) → T (hueInRange h) → wholePart h ≤ 5
@@ -117,7 +106,7 @@ whole-part-next : (h : Float) → num h < wholePart h * den h + den h
 whole-part-next h = lt-div-mul-add (den-pos h)
 
 -- k as an f32.
-abbrev pub wholePart32 : Float → Float
+abbrev wholePart32 : Float → Float
 wholePart32 h = ofInt binary32 (pos (wholePart h))
 
 -- k, a whole number up to 2 ^ 24, is an f32.

@@ -1,14 +1,13 @@
 -- The channels of a hue in range, a saturation and a value from 0 to 1 lie from 0 to 1, whatever the rounding.
-use mathlib.Core.Path.{_≡_, refl, sym, ap, _∙_, subst}
+use mathlib.Core.Path.{_≡_, refl, sym, ap, subst}
 use Prim.Native.Nat.{ℕ, zero, suc}
 use mathlib.Core.Bool.{false, not}
-use mathlib.Core.List.{[], _∷_}
 use borrow.Author.Tests.{not-false}
 use lib.Dec.{T}
 use lib.Ieee.{Float, nan, inf, fin, binary32, sub, mul}
-use Rattle.decide.specs.Refusal.{_when_, firstThat, accepted}
+use Rattle.decide.specs.Refusal.{firstThat, accepted}
 use Rattle.decide.proofs.Truth.{true-of}
-use Rattle.decide.proofs.Refusal.{first-passes, first-empty, accepted-passes, accepted-append-three}
+use Rattle.decide.proofs.Refusal.{accepted-none, accepted-append-three}
 use Rattle.channel.specs.Channel.{inRange, infiniteOrNan, one32, channelRefusals}
 use Rattle.channel.specs.Rgb.{AllInRange}
 use Rattle.channel.proofs.Range.{channel-in-range}
@@ -55,9 +54,8 @@ channels-in-range w h =
 -- A hue with no refusal is in range.
 hue-in-range : (h : Float) → firstThat (hueRefusals h) ≡ accepted → T (hueInRange h)
 hue-in-range h e =
-    let r = accepted-passes 31 (infiniteOrNan h) (33 when not (hueInRange h) ∷ []) e in
-    let q = accepted-passes 33 (not (hueInRange h)) [] (r .1) in
-    subst T (sym (not-false (hueInRange h) (q .0))) tt
+    let r = accepted-none (hueRefusals h) .0 e in
+    subst T (sym (not-false (hueInRange h) (r .1 .0))) tt
 
 -- A hue in range is finite.
 hue-finite : (h : Float) → T (hueInRange h) → infiniteOrNan h ≡ false
@@ -68,8 +66,7 @@ hue-finite (fin s m e) u = refl
 -- It has no refusal.
 pub hue-accepted : (h : Float) → T (hueInRange h) → firstThat (hueRefusals h) ≡ accepted
 hue-accepted h u =
-    first-passes 31 (infiniteOrNan h) (33 when not (hueInRange h) ∷ []) (hue-finite h u)
-    ∙ first-passes 33 (not (hueInRange h)) [] (ap not (true-of (hueInRange h) u)) ∙ first-empty
+    accepted-none (hueRefusals h) .1 (hue-finite h u, (ap not (true-of (hueInRange h) u), tt))
 
 -- Hue, saturation and value with no refusal are in range.
 pub hsv-in-range : (w : Hsv) → firstThat (hsvRefusals w) ≡ accepted → HsvInRange w

@@ -71,7 +71,7 @@ round-range false n c C h z =
 round-range true n c C h z = zero-range (round binary32 true n c) true n c C (held-value true n c C (zero-held n c (z tt))) (z tt)
 
 -- So is what rounds it.
-pub rounds-range : (r : Float) (n c : ℕ) → 0 < c → n ≤ c → Rounds r n c → T (inRange r)
+rounds-range : (r : Float) (n c : ℕ) → 0 < c → n ≤ c → Rounds r n c → T (inRange r)
 rounds-range r n c C h R =
     subst (λ (x : Float). T (inRange x)) (sym (R .rounded)) (round-range (R .minus) n c C h (R .zero))
 

@@ -9,7 +9,8 @@ use Rattle.channel.specs.declared.Rgb.{Rgb}
 use Rattle.channel.specs.Channel.{one32}
 use Rattle.hsv.specs.declared.Hsv.{Hsv}
 
--- k, the whole part of h, where num h / den h is exactly the number that the f32 denotes.
+-- k, the whole part of h. For an h in range, num h / den h is exactly the number that the f32 denotes. Elsewhere it need
+-- not be: it is the size of a finite f32, with no sign, and 0 / 1 for an infinity and a NaN.
 abbrev pub wholePart : (h : Float) → ℕ
 wholePart h = num h / den h
 

@@ -26,6 +26,10 @@ module _ {M : ℕ} {z : ℤ} where
   pub within-upper : Within M z → z ≤ℤ pos M
   within-upper = rw (val-of z) (simp zval (omega arith))
 
+  -- And at least -M.
+  pub within-lower : Within M z → (pos 0 -ℤ pos M) ≤ℤ z
+  within-lower = rw (val-of z) (simp zval (omega arith))
+
 module _ {M N : ℕ} {x y : ℤ} where
   -- The bound of a sum is the sum of the bounds.
   pub within-add : Within M x → Within N y → Within (M + N) (x +ℤ y)

@@ -1,11 +1,12 @@
 -- The channels of a swatch with no refusal lie from 0 to 1.
 use mathlib.Core.Path.{_≡_, refl, sym, _∙_, subst}
 use mathlib.Core.Bool.{true, _&&_}
+use mathlib.Core.List.{_++_}
 use lib.Dec.{T}
 use lib.Ieee.{Float}
 use Rattle.decide.specs.Refusal.{Verdict, firstThat, orElse, accepted, refused}
 use Rattle.decide.proofs.Truth.{both}
-use Rattle.decide.proofs.Refusal.{first-append-three, accepted-append-three}
+use Rattle.decide.proofs.Refusal.{first-append-three, append-passes, accepted-append-three}
 use Rattle.channel.specs.Channel.{inRange, channelRefusals}
 use Rattle.channel.specs.Rgb.{rgbRefusals, AllInRange}
 use Rattle.channel.proofs.Range.{range-accepted, channel-in-range}
@@ -15,16 +16,11 @@ use Rattle.swatch.specs.declared.Swatch.{Swatch}
 use Rattle.swatch.specs.declared.Swatch.the-variants.{Color, Grey, Hue}
 use Rattle.swatch.specs.Swatch.{channelsOf, swatchRefusals}
 
--- The number of three channels is red's, or else green's, or else blue's.
-pub rgb-first : (c : Rgb) → firstThat (rgbRefusals c)
-    ≡ orElse (firstThat (channelRefusals (c .red)))
-    (orElse (firstThat (channelRefusals (c .green))) (firstThat (channelRefusals (c .blue))))
-rgb-first c =
-    first-append-three (channelRefusals (c .red)) (channelRefusals (c .green)) (channelRefusals (c .blue))
-
 -- The number of a grey is that of its one channel.
 pub grey-first : (g : Float) → firstThat (swatchRefusals (Grey g)) ≡ firstThat (channelRefusals g)
-grey-first g = rgb-first (channelsOf (Grey g)) ∙ go (firstThat (channelRefusals g))
+grey-first g =
+    let rules = channelRefusals g in
+    first-append-three rules rules rules ∙ go (firstThat rules)
   where
     go : (r : Verdict) → orElse r (orElse r r) ≡ r
     go accepted = refl
@@ -36,10 +32,13 @@ pub rgb-accepted : (c : Rgb) → (inRange (c .red) && inRange (c .green) && inRa
 rgb-accepted c e =
     let h = both (inRange (c .red) && inRange (c .green)) (inRange (c .blue)) .0 (subst T (sym e) tt) in
     let k = both (inRange (c .red)) (inRange (c .green)) .0 (h .0) in
-    rgb-first c ∙ rw (range-accepted (c .red) (k .0), range-accepted (c .green) (k .1), range-accepted (c .blue) (h .1))
+    let blues = channelRefusals (c .blue) in
+    append-passes (channelRefusals (c .red)) (channelRefusals (c .green) ++ blues) (range-accepted (c .red) (k .0))
+    ∙ append-passes (channelRefusals (c .green)) blues (range-accepted (c .green) (k .1))
+    ∙ range-accepted (c .blue) (h .1)
 
 -- Three channels with no refusal lie from 0 to 1.
-pub rgb-in-range : (c : Rgb) → firstThat (rgbRefusals c) ≡ accepted → AllInRange c
+rgb-in-range : (c : Rgb) → firstThat (rgbRefusals c) ≡ accepted → AllInRange c
 rgb-in-range c h =
     let r =
     accepted-append-three (channelRefusals (c .red)) (channelRefusals (c .green)) (channelRefusals (c .blue)) h in

@@ -1,5 +1,5 @@
 // Swatches: colours given as f32 channels, or as hue, saturation and value, which become cells of the colour cube or are
-// mixed half-way.
+// mixed half-way. Open to callers: `to_cell` and `half_way`, the only functions that are `pub`.
 ghost use mathlib.Core.Path.{_≡_};
 ghost use mathlib.Core.Bool.{false, _&&_};
 ghost use Prim.Native.Nat.{_≤_};

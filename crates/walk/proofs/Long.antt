@@ -36,7 +36,7 @@ seen-sample p (index {n} {i} {ns} {is} h s) t =
     (i, omega arith, seen-sample (λ js. p (i ∷ js)) s t)
 
 -- Some sample passes.
-pub some-sample : (ns : List ℕ) (p : List ℕ → Bool) → T (someSample ns p) ↔ ((is : List ℕ) × Sample ns is × T (p is))
+some-sample : (ns : List ℕ) (p : List ℕ → Bool) → T (someSample ns p) ↔ ((is : List ℕ) × Sample ns is × T (p is))
 some-sample ns p = (found-sample ns p, λ w. seen-sample p (w .1) (w .2))
 
 module _ (s : ℕ) where

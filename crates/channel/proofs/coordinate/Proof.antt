@@ -1,31 +1,28 @@
 -- `coordinate` meets its contract: the channel is raised, and the bits of the raised one give the coordinate.
-use mathlib.Core.Path.{_≡_, refl, sym, subst}
+use mathlib.Core.Path.{sym, subst}
 use mathlib.Core.Logic.{⊎-elim}
 use Prim.Native.Nat.{_+_, _-_, _*_, _/_, _≤_}
 use native.Mathlib.Omega.{arith}
 use borrow.Author.Needs.{needs}
-use lib.Dec.{T}
+use lib.Dec.{T, lit≤}
 use lib.Pow.{shr-le}
-use lib.Ieee.{binary32, ofBits, toBits}
+use lib.Ieee.{binary32, ofBits, toBits, le, fits}
+use Rattle.channel.specs.Channel.{inRange}
 use Rattle.channel.proofs.Order.{range-no-nan}
 use Rattle.channel.proofs.Bits.{fractionField}
-use Rattle.channel.proofs.Raised.{small32, Raised, raised-small, raised-large, field-ge, field-le, field-is}
+use Rattle.channel.proofs.Raised.{Raised, raised-small, raised-large, field-ge, field-le, field-is}
 use Rattle.channel.proofs.FromBits.{product-le, raised-coordinate}
 use Rattle.channel.proofs.coordinate.Statement.{statement}
 use Rattle.channel.proofs.coordinate.Tie as tie
 
--- The bit pattern of 1/128.
-small-bits : ofBits binary32 0x3c00_0000 ≡ small32
-unfolding ofBits
-small-bits = refl
-
--- What the channel is raised to.
+-- What the channel is raised to. That the code's constant is from 1/128, and in cell 0 at every side, is computed.
 raised : (c : tie.Joined1) → Raised (c .before .args .v) (c .if1 .raised)
+unfolding ofBits le fits inRange
 raised c =
     let s = c .before in
     let v = s .args .v in
-    ⊎-elim (λ w. rw (w .1, small-bits) (raised-small v (s .pre .1) (rw small-bits at (w .0 .taken))))
-    (λ w. rw (w .1) (raised-large v (subst T (sym (s .good .1 .0 .1)) tt) (s .pre .1) (rw small-bits at (w .0 .left))))
+    ⊎-elim (λ w. raised-small v (w .1) (lit≤ tt) tt tt (lit≤ tt) (s .pre .1) (w .0 .taken))
+    (λ w. rw (w .1) (raised-large v _ (w .0 .left) (lit≤ tt) tt (subst T (sym (s .good .1 .0 .1)) tt) (s .pre .1)))
     (c .if1 .came)
 
 returns : tie.Need-returns

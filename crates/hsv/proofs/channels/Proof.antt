@@ -3,7 +3,7 @@ use mathlib.Core.Path.{_≡_, refl, sym, ap, _∙_}
 use Prim.Native.Nat.{ℕ, _+_, _*_, _≤_, _<_}
 use native.Mathlib.Nat.{div-eq-of-lt-le}
 use native.Mathlib.Omega.{arith}
-use mathlib.Core.Bool.{true, false}
+use mathlib.Core.Bool.{Bool, true, false}
 use borrow.Author.Needs.{needs}
 use lib.IntN.{pos}
 use lib.Ieee.{Float, binary32, ofBits, sub, ofInt, lt}
@@ -11,7 +11,7 @@ use lib.Ieee.Exact.{HasValue}
 use lib.Ieee.Positive.{num, den}
 use Rattle.hsv.specs.declared.Hsv.{Hsv}
 use Rattle.hsv.specs.Channels.{pOf, qOf, rOf, rgb, row, hsvChannels}
-use Rattle.hsv.proofs.Hue.{hue-nonneg, hue-below-six, below-whole, from-whole}
+use Rattle.hsv.proofs.Hue.{Told, whole-told, hue-nonneg, hue-below-six}
 use Rattle.hsv.proofs.channels.Statement.{statement}
 use Rattle.hsv.proofs.channels.Tie as tie
 
@@ -35,13 +35,10 @@ module _ (s : tie.Start) where
   abbrev p : Float
   p = pOf v (hsv .saturation)
 
-  -- The hue is below the f32 x, which is the whole number k.
-  under : (x : Float) (k : ℕ) → HasValue x false k 1 → lt (hsv .hue) x ≡ true → num (hsv .hue) < k * den (hsv .hue)
-  under x k = below-whole (hsv .hue) x k (hue-nonneg (hsv .hue) (s .pre))
-
-  -- The hue is at least that.
-  over : (x : Float) (k : ℕ) → HasValue x false k 1 → lt (hsv .hue) x ≡ false → k * den (hsv .hue) ≤ num (hsv .hue)
-  over x k = from-whole (hsv .hue) x k (hue-nonneg (hsv .hue) (s .pre))
+  -- What the test of the hue against the f32 x tells, where x is the whole number k.
+  told : (x : Float) (k : ℕ) (r : Bool) → HasValue x false k 1 → lt (hsv .hue) x ≡ r
+      → Told r (num (hsv .hue)) (k * den (hsv .hue))
+  told x k r = whole-told (hsv .hue) x k r (hue-nonneg (hsv .hue) (s .pre))
 
 r-of-requires : tie.Need-r-of-requires
 r-of-requires c κs = search needs
@@ -56,7 +53,7 @@ returns c =
     c .rgb .ensures ∙ ap (λ x. rgb (v s) x (p s)) (c .before .r-of .ensures)
     ∙ sym
     (in-row (hsv s) 0 (omega arith)
-    (under s _ 1 (refl, refl) (c .before .before .if1 .taken)))
+    (told s _ 1 true (refl, refl) (c .before .before .if1 .taken)))
 
 q-of-requires : tie.Need-q-of-requires
 q-of-requires c κs = search needs
@@ -70,8 +67,8 @@ returns-2 c =
     let s = c .before .before .before .before in
     c .rgb2 .ensures ∙ ap (λ x. rgb x (v s) (p s)) (c .before .q-of .ensures)
     ∙ sym
-    (in-row (hsv s) 1 (over s _ 1 (refl, refl) (c .before .before .before .if1 .left))
-    (under s _ 2 (refl, refl) (c .before .before .if2 .taken)))
+    (in-row (hsv s) 1 (told s _ 1 false (refl, refl) (c .before .before .before .if1 .left))
+    (told s _ 2 true (refl, refl) (c .before .before .if2 .taken)))
 
 r-of-requires-2 : tie.Need-r-of-requires-2
 r-of-requires-2 c κs = search needs
@@ -85,8 +82,8 @@ returns-3 c =
     let s = c .before .before .before .before .before in
     c .rgb3 .ensures ∙ ap (λ x. rgb (p s) (v s) x) (c .before .r-of2 .ensures)
     ∙ sym
-    (in-row (hsv s) 2 (over s _ 2 (refl, refl) (c .before .before .before .if2 .left))
-    (under s _ 3 (refl, refl) (c .before .before .if3 .taken)))
+    (in-row (hsv s) 2 (told s _ 2 false (refl, refl) (c .before .before .before .if2 .left))
+    (told s _ 3 true (refl, refl) (c .before .before .if3 .taken)))
 
 q-of-requires-2 : tie.Need-q-of-requires-2
 q-of-requires-2 c κs = search needs
@@ -100,8 +97,8 @@ returns-4 c =
     let s = c .before .before .before .before .before .before in
     c .rgb4 .ensures ∙ ap (λ x. rgb (p s) x (v s)) (c .before .q-of2 .ensures)
     ∙ sym
-    (in-row (hsv s) 3 (over s _ 3 (refl, refl) (c .before .before .before .if3 .left))
-    (under s _ 4 (refl, refl) (c .before .before .if4 .taken)))
+    (in-row (hsv s) 3 (told s _ 3 false (refl, refl) (c .before .before .before .if3 .left))
+    (told s _ 4 true (refl, refl) (c .before .before .if4 .taken)))
 
 r-of-requires-3 : tie.Need-r-of-requires-3
 r-of-requires-3 c κs = search needs
@@ -115,8 +112,8 @@ returns-5 c =
     let s = c .before .before .before .before .before .before .before in
     c .rgb5 .ensures ∙ ap (λ x. rgb x (p s) (v s)) (c .before .r-of3 .ensures)
     ∙ sym
-    (in-row (hsv s) 4 (over s _ 4 (refl, refl) (c .before .before .before .if4 .left))
-    (under s _ 5 (refl, refl) (c .before .before .if5 .taken)))
+    (in-row (hsv s) 4 (told s _ 4 false (refl, refl) (c .before .before .before .if4 .left))
+    (told s _ 5 true (refl, refl) (c .before .before .if5 .taken)))
 
 q-of-requires-3 : tie.Need-q-of-requires-3
 q-of-requires-3 c κs = search needs
@@ -130,7 +127,7 @@ returns-6 c =
     let s = c .before .before .before .before .before .before .before in
     c .rgb6 .ensures ∙ ap (λ x. rgb (v s) (p s) x) (c .before .q-of3 .ensures)
     ∙ sym
-    (in-row (hsv s) 5 (over s _ 5 (refl, refl) (c .before .before .if5 .left))
+    (in-row (hsv s) 5 (told s _ 5 false (refl, refl) (c .before .before .if5 .left))
     (hue-below-six (hsv s .hue) (s .pre)))
 
 pub channels-spec : {M : Type 1} → statement M

@@ -2,8 +2,8 @@
 use mathlib.Core.Path.{_≡_, sym, ap, _∙_}
 use borrow.Author.Needs.{needs}
 use Rattle.decide.specs.Refusal.{firstThat, accepted}
-use Rattle.decide.proofs.Refusal.{first-append}
 use Rattle.decide.specs.Verdict.{verdictOf}
+use Rattle.decide.proofs.Refusal.{append-refused, append-passes}
 use Rattle.swatch.specs.Swatch.{swatchRefusals}
 use Rattle.swatch.proofs.Range.{swatch-in-range}
 use Rattle.swatch.proofs.half_way.Statement.{statement}
@@ -13,8 +13,8 @@ returns : tie.Need-returns
 returns c =
     let v = c .before .before .before in
     let s = v .before .args in
-    first-append (swatchRefusals (s .a)) (swatchRefusals (s .b))
-    ∙ rw (sym (v .swatch-verdict .ensures) ∙ ap verdictOf (c .before .n .given .1))
+    append-refused (swatchRefusals (s .a)) (swatchRefusals (s .b))
+    (sym (v .swatch-verdict .ensures) ∙ ap verdictOf (c .before .n .given .1))
 
 -- Past the first match the first swatch is accepted.
 first : (c : tie.After-enum-told) → firstThat (swatchRefusals (c .before .before .before .args .a)) ≡ accepted
@@ -29,8 +29,8 @@ returns-2 : tie.Need-returns-2
 returns-2 c =
     let v = c .before .before .before in
     let s = v .before .before .before .before .before .args in
-    first-append (swatchRefusals (s .a)) (swatchRefusals (s .b))
-    ∙ rw (first (v .before .before), sym (v .swatch-verdict2 .ensures) ∙ ap verdictOf (c .before .n2 .given .1))
+    append-passes (swatchRefusals (s .a)) (swatchRefusals (s .b)) (first (v .before .before))
+    ∙ sym (v .swatch-verdict2 .ensures) ∙ ap verdictOf (c .before .n2 .given .1)
 
 rgb-half-way-requires : tie.Need-rgb-half-way-requires
 rgb-half-way-requires c κs =
@@ -47,7 +47,7 @@ returns-3 c =
     let k = t .before .before .before in
     let s = k .before .before .before .before .args in
     record {
-      no-number = first-append (swatchRefusals (s .a)) (swatchRefusals (s .b)) ∙ rw (first (k .before), second t);
+      no-number = append-passes (swatchRefusals (s .a)) (swatchRefusals (s .b)) (first (k .before)) ∙ second t;
       mixed = rw (← k .channels .ensures, ← c .before .channels2 .ensures) (c .rgb-half-way .ensures);
     }
 

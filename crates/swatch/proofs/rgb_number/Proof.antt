@@ -1,17 +1,33 @@
 -- `rgb_number` meets its contract: the channels before the first that is not accepted have no refusal.
 use mathlib.Core.Path.{sym, _∙_, subst}
+use mathlib.Core.List.{List, _++_}
 use borrow.Author.Needs.{needs}
 use borrow.Author.Tests.{not-true, not-false}
 use lib.Dec.{T}
+use Rattle.decide.specs.Refusal.{Rule}
 use Rattle.decide.proofs.Truth.{true-of}
-use Rattle.channel.specs.Channel.{inRange}
+use Rattle.decide.proofs.Refusal.{append-refused, append-passes}
+use Rattle.channel.specs.declared.Rgb.{Rgb}
+use Rattle.channel.specs.Channel.{inRange, channelRefusals}
 use Rattle.channel.proofs.Range.{range-accepted}
-use Rattle.swatch.proofs.Range.{rgb-first}
 use Rattle.swatch.proofs.rgb_number.Statement.{statement}
 use Rattle.swatch.proofs.rgb_number.Tie as tie
 
+-- The rules of each channel.
+module _ (c : Rgb) where
+  abbrev reds : List Rule
+  reds = channelRefusals (c .red)
+
+  abbrev greens : List Rule
+  greens = channelRefusals (c .green)
+
+  abbrev blues : List Rule
+  blues = channelRefusals (c .blue)
+
 returns : tie.Need-returns
-returns c = rgb-first (c .before .before .before .args .c) ∙ rw (c .number .ensures)
+returns c =
+    let w = c .before .before .before .args .c in
+    append-refused (reds w) (greens w ++ blues w) (c .number .ensures)
 
 -- Past the first test red is accepted.
 red : (c : tie.Else1) → T (inRange (c .before .before .args .c .red))
@@ -27,17 +43,16 @@ green c =
 
 returns-2 : tie.Need-returns-2
 returns-2 c =
-    rgb-first (c .before .before .before .before .before .args .c)
-    ∙ rw (range-accepted _ (red (c .before .before .before)), c .number2 .ensures)
+    let w = c .before .before .before .before .before .args .c in
+    append-passes (reds w) (greens w ++ blues w) (range-accepted (w .red) (red (c .before .before .before)))
+    ∙ append-refused (greens w) (blues w) (c .number2 .ensures)
 
 returns-3 : tie.Need-returns-3
 returns-3 c =
-    rgb-first (c .before .before .before .before .before .args .c)
-    ∙ rw (
-      range-accepted _ (red (c .before .before .before)),
-      range-accepted _ (green (c .before)),
-      c .number3 .ensures,
-    )
+    let w = c .before .before .before .before .before .args .c in
+    append-passes (reds w) (greens w ++ blues w) (range-accepted (w .red) (red (c .before .before .before)))
+    ∙ append-passes (greens w) (blues w) (range-accepted (w .green) (green (c .before)))
+    ∙ c .number3 .ensures
 
 is-accepted-requires : tie.Need-is-accepted-requires
 is-accepted-requires c κs = search needs

@@ -18,7 +18,7 @@ outside : (c : tie.Joined1) → sideOut (c .before .args .side) ≡ true
 unfolding sideOut
 outside c =
     let side = c .before .args .side in
-    ⊎-elim (λ w. simp (lt-ltb side 2 (w .taken))) (λ w. simp (le-ltb side 2 (w .0 .left), w .1 .taken)) (c .if1 .came)
+    ⊎-elim (λ w. simp (lt-ltb side 2 (w .taken))) (λ w. rw (le-ltb side 2 (w .0 .left)) (w .1 .taken)) (c .if1 .came)
 
 returns : tie.Need-returns
 returns c =
@@ -32,7 +32,7 @@ unfolding sideOut
 past c =
     let s = c .before .before in
     first-passes 11 (sideOut (s .args .side)) (swatchRefusals (s .args .swatch))
-    (rw (le-ltb (s .args .side) 2 (c .before .if1 .left), c .if2 .left))
+    (rw (le-ltb (s .args .side) 2 (c .before .if1 .left)) (c .if2 .left))
 
 swatch-verdict-requires : tie.Need-swatch-verdict-requires
 swatch-verdict-requires c κs = search needs

@@ -2,7 +2,7 @@
 use borrow.Author.Needs.{needs}
 use Prim.Native.Nat.{_+_, _*_, _%_, _^_, _<_}
 use native.Mathlib.Omega.{arith}
-use Rattle.cube_totals.specs.Table.{half, Below}
+use Rattle.cube_totals.specs.Table.{twoTo32, Below}
 use Rattle.cube_totals.proofs.Table.{below-plus, both-words}
 use Rattle.cube_totals.proofs.tally.add.Statement.{statement}
 use Rattle.cube_totals.proofs.tally.add.Tie as tie
@@ -13,7 +13,7 @@ first c =
     let s = c .before .before .before .before in
     let i = 4 * c .before .before .wide .result + 2 * (s .args .x % 2) in
     let l : i < 1024 = omega (arith, c .before .before .wide .ensures .1) in
-    rw (c .add-at .ensures) (below-plus i (1 + half * s .args .x) l (omega (arith, s .pre .1 .0)) (s .pre .0))
+    rw (c .add-at .ensures) (below-plus i (1 + twoTo32 * s .args .x) l (omega (arith, s .pre .1 .0)) (s .pre .0))
 
 wide-requires : tie.Need-wide-requires
 wide-requires c κs = search needs
@@ -70,7 +70,7 @@ returns c =
     let s = first .before .before .before .before in
     let a = s .args in
     rw (second .add-at2 .ensures, first .add-at .ensures, first .before .before .wide .ensures .0)
-    (both-words (a .table .now) (4 * a .mark + 2 * (a .x % 2)) (1 + half * a .x) (a .y + half * a .z))
+    (both-words (a .table .now) (4 * a .mark + 2 * (a .x % 2)) (1 + twoTo32 * a .x) (a .y + twoTo32 * a .z))
 
 pub add-spec : {M : Type 1} → statement M
 add-spec =

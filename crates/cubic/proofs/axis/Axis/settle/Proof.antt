@@ -1,10 +1,14 @@
 -- `Axis::settle` meets its contract: the sums of a move fit, and the tests are those of the definition.
-use mathlib.Core.Path.{_≡_}
+use mathlib.Core.Path.{_≡_, ap, _∙_}
 use mathlib.Core.Logic.{⊎-elim}
+use mathlib.Core.Bool.{Bool, true, false}
 use Prim.Native.Nat.{_+_, _^_}
 use borrow.Author.Needs.{needs}
 use lib.Dec.{lit<}
 use lib.IntN.{ℤ, pos, _+ℤ_, _-ℤ_}
+use lib.Signed.{ltZ}
+use mir.Syntax.{w64}
+use mir.Val.{toZ}
 use Rattle.cubic.specs.declared.axis.Axis.{Axis}
 use Rattle.cubic.specs.Axis.{settleOf}
 use Rattle.cubic.specs.Room.{Settles}
@@ -41,6 +45,36 @@ module _ {N h : ℤ} {a : Axis} (p : Settles N h a) where
   d3 : read (a .cubic .d3) ≡ a .cubic .d3
   d3 = held (p .cubic .d3) (lit< tt) .same
 
+  -- The test against N, and the one against -N.
+  above : {b : Bool} → ltZ (read N) (read (a .cubic .value)) ≡ b → ltZ N (a .cubic .value) ≡ b
+  above t = rw (scale .same, value .same) at t
+
+  below : {b : Bool} → ltZ (read (a .cubic .value)) (read (pos 0 -ℤ read N)) ≡ b → ltZ (a .cubic .value) (pos 0 -ℤ N) ≡ b
+  below t = rw (value .same, low .same) at t
+
+  -- What is handed back: a position and a remainder beside the differences as they were.
+  abbrev handed : (x r : ℤ) → Axis
+  handed x r = record {
+    at = x;
+    cubic = record { value = r; d1 = read (a .cubic .d1); d2 = read (a .cubic .d2); d3 = read (a .cubic .d3) };
+  }
+
+  -- It is the definition's: up, down and not moved.
+  goes-up : {x r : ℤ} → x ≡ a .at +ℤ h → r ≡ a .cubic .value -ℤ (N +ℤ N) → ltZ N (a .cubic .value) ≡ true →
+      handed x r ≡ settleOf N h a
+  unfolding settleOf
+  goes-up e f t = simp (e, f, d1, d2, d3, t)
+
+  goes-down : {x r : ℤ} → x ≡ a .at -ℤ h → r ≡ a .cubic .value +ℤ (N +ℤ N) → ltZ N (a .cubic .value) ≡ false →
+      ltZ (a .cubic .value) (pos 0 -ℤ N) ≡ true → handed x r ≡ settleOf N h a
+  unfolding settleOf
+  goes-down e f t u = simp (e, f, d1, d2, d3, t, u)
+
+  stays : {x r : ℤ} → x ≡ a .at → r ≡ a .cubic .value → ltZ N (a .cubic .value) ≡ false →
+      ltZ (a .cubic .value) (pos 0 -ℤ N) ≡ false → handed x r ≡ settleOf N h a
+  unfolding settleOf
+  stays e f t u = simp (e, f, d1, d2, d3, t, u)
+
 add-two : tie.Need-add-two
 add-two c = let p = c .pre in search (needs, fitting)
 
@@ -60,30 +94,24 @@ add-rem : tie.Need-add-rem
 add-rem c = let p = c .before .before .before .before .before .pre in search (needs, fitting)
 
 returns : tie.Need-returns
-unfolding settleOf
 returns c =
     let p = c .before .before .before .before .before .pre in
     ⊎-elim
-    (λ w. let up = simp (scale p .same, value p .same) at (w .0 .taken) in
-    simp
-    (w .1, w .2, add (at p) (stride p) (lit< tt) .same, sub (value p) (two p) (lit< tt) .same, d1 p, d2 p, d3 p, up))
+    (λ w.
+    goes-up p
+    (ap (toZ w64) (w .1) ∙ add (at p) (stride p) (lit< tt) .same)
+    (ap (toZ w64) (w .2) ∙ sub (value p) (two p) (lit< tt) .same)
+    (above p (w .0 .taken)))
     (⊎-elim
-    (λ w. let not-up = simp (scale p .same, value p .same) at (w .0 .left) in
-    let down = simp (value p .same, low p .same) at (w .1 .taken) in
-    simp (
-      w .2,
-      w .3,
-      sub (at p) (stride p) (lit< tt) .same,
-      add (value p) (two p) (lit< tt) .same,
-      d1 p,
-      d2 p,
-      d3 p,
-      not-up,
-      down,
-    ))
-    (λ w. let not-up = simp (scale p .same, value p .same) at (w .0 .left) in
-    let not-down = simp (value p .same, low p .same) at (w .1 .left) in
-    simp (w .2, w .3, at p .same, value p .same, d1 p, d2 p, d3 p, not-up, not-down)))
+    (λ w.
+    goes-down p
+    (ap (toZ w64) (w .2) ∙ sub (at p) (stride p) (lit< tt) .same)
+    (ap (toZ w64) (w .3) ∙ add (value p) (two p) (lit< tt) .same)
+    (above p (w .0 .left)) (below p (w .1 .taken)))
+    (λ w.
+    stays p
+    (ap (toZ w64) (w .2) ∙ at p .same) (ap (toZ w64) (w .3) ∙ value p .same)
+    (above p (w .0 .left)) (below p (w .1 .left))))
     (c .before .if1 .came)
 
 pub settle-spec : {M : Type 1} → statement M
