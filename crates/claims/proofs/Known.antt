@@ -2,6 +2,7 @@
 use lib.Dec.{T}
 use Rattle.bezier.specs.Exact.{blend, scale, points, value}
 use Rattle.decide.specs.Some.{someBelow, someOf}
+use Rattle.decide.specs.Same.{sameBytes}
 use Rattle.decide.specs.Refusal.{firstThat}
 use Rattle.walk.specs.Walk.{withinHalf, towards, move, walk, cell}
 use Rattle.walk.specs.Steps.{farApart, someSample, tooLong}
@@ -13,5 +14,6 @@ use Rattle.claims.specs.Known.{known, holds, allHold}
 
 pub known-hold : T (allHold known)
 unfolding blend scale points value someBelow someOf firstThat withinHalf towards move walk cell farApart someSample tooLong
-    someAxis sideOut offset coordinate exact cellOf countOut coordinateOut stepsTooLong order drawVerdict row bytes holds allHold
+    someAxis sideOut offset coordinate exact cellOf countOut coordinateOut stepsTooLong order drawVerdict row bytes sameBytes
+    holds allHold
 known-hold = tt

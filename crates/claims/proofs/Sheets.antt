@@ -7,16 +7,16 @@ use Rattle.sheet_cube.specs.declared.Answer.{Answer}
 use Rattle.sheet_cube.specs.Answer.{saidOf, DrawsSheet}
 use Rattle.sheet_cube.proofs.Called.{called-accepted}
 use Rattle.claims.specs.Sheets.{SheetDrawn}
-use Rattle.claims.proofs.Strokes.{strokes-drawn, sheet-cube}
+use Rattle.claims.proofs.Strokes.{strokes-good, strokes-drawn, sheet-cube}
 
 pub sheet-drawn : {input buffer bufferNow : List ℕ} {r : Answer} {S n : ℕ} →
     DrawsSheet input buffer bufferNow r → saidOf r ≡ drew S n → SheetDrawn input bufferNow S n
-sheet-drawn {S = S} d e =
+sheet-drawn {input} {S = S} d e =
     let a = called-accepted d e in
     record {
       strokes = a .strokes;
       judged = a .judged;
       count = a .count;
       holds = a .cube ∙ sheet-cube S (a .strokes);
-      drawn = strokes-drawn S (a .strokes);
+      drawn = strokes-drawn S (a .strokes) (strokes-good input (a .judged));
     }

@@ -1,4 +1,5 @@
--- The strokes of a sheet are a list of calls that starts from an unmarked cube, so demand 3 speaks of them.
+-- The strokes of a sheet are a list of calls that starts from an unmarked cube, so demand 3 speaks of them, and those of
+-- a good sheet are accepted.
 use mathlib.Core.Path.{_≡_, refl, _∙_, subst}
 use mathlib.Core.Logic.{inl, inr, ⊎-elim}
 use mathlib.Core.List.{List, [], _∷_, _++_, map, map-append}
@@ -7,14 +8,23 @@ use lib.ListN.{length, getD, length-replicate, getD-replicate}
 use Rattle.cube.specs.Cube.{place, volume}
 use Rattle.cube.proofs.Places.{place-below}
 use Rattle.drawing.specs.Drawing.{drawn, inTurn}
-use Rattle.sheet.specs.Sheet.{Stroke}
+use Rattle.sheet.specs.Sheet.{Stroke, good, judge}
 use Rattle.sheet.specs.Printed.{cubeOf}
-use Rattle.claims.specs.Demand3.{sideOf, objectOf, run, MarkOfNearObject, Demand3}
+use Rattle.sheet_cube.proofs.Judged.{passes, passes-draws}
+use Rattle.sheet_cube.proofs.Drawing.{Each, each-one, good-strokes}
+use Rattle.claims.specs.Demand3.{sideOf, objectOf, run, Accepted, MarkOfNearObject, Demand3}
 use Rattle.claims.specs.Strokes.{unmarked, callOf, drawing, StrokesDrawn}
 use Rattle.claims.proofs.Demand3.{claim}
 
-pub strokes-drawn : (S : ℕ) (strokes : List Stroke) → StrokesDrawn S strokes
-strokes-drawn S strokes =
+-- A stroke of a sheet of side S is accepted.
+abbrev Good : (S : ℕ) → Stroke → Type 0
+Good S s = Accepted (volume S) (callOf S s)
+
+pub strokes-good : (input : List ℕ) {S : ℕ} {strokes : List Stroke} → judge input ≡ good S strokes → Each (Good S) strokes
+strokes-good input {S} e = good-strokes (Good S) S (λ k l a. passes-draws (passes l a) refl) input e
+
+pub strokes-drawn : (S : ℕ) (strokes : List Stroke) → Each (Good S) strokes → StrokesDrawn S strokes
+strokes-drawn S strokes all-good =
     let cube : length (unmarked S) ≡ volume S = length-replicate (volume S) 0 in
     let all : (l : List Stroke) → Demand3 S (unmarked S) (map (callOf S) l) =
     λ l. claim .demand-3 S (unmarked S) cube (map (callOf S) l) in
@@ -24,10 +34,13 @@ strokes-drawn S strokes =
           (λ m. inr (subst (λ len. MarkOfNearObject len (map (callOf S) strokes) c
           (getD (drawing S strokes) (place S c) 0)) cube m))
           (all strokes .each-cell c inside);
-      each-stroke = λ before after s splits e.
-          rw (map-append (callOf S) before (s ∷ []))
-          (all (before ++ s ∷ []) .each-object (map (callOf S) before) [] (callOf S s)
-          (map-append (callOf S) before (s ∷ [])) (rw cube e));
+      each-stroke = λ before after s splits.
+          let e : Good S s = each-one (Good S) before after s (subst (Each (Good S)) splits all-good) in (
+            e,
+            rw (map-append (callOf S) before (s ∷ []))
+                (all (before ++ s ∷ []) .each-object (map (callOf S) before) [] (callOf S s)
+                (map-append (callOf S) before (s ∷ [])) (rw cube e)),
+          );
     }
 
 -- Calls made of strokes, drawn in turn, are the strokes drawn in turn.

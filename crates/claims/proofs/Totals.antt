@@ -1,11 +1,11 @@
 -- The totals of an accepted sheet add up: its marks are 1 to 255, so its cube holds bytes.
-use mathlib.Core.Path.{_≡_, sym, _∙_, ap}
+use mathlib.Core.Path.{_≡_, ap}
 use mathlib.Core.Logic.{⊎-elim}
-use mathlib.Core.List.{List, [], _∷_, map}
-use Prim.Native.Nat.{ℕ, suc, _<_}
+use mathlib.Core.List.{List, [], _∷_}
+use Prim.Native.Nat.{ℕ, _<_}
 use native.Mathlib.Omega.{arith}
 use lib.Dec.{eqb, ltb}
-use lib.ListN.{length, drop, replicate, length-replicate, getD-replicate}
+use lib.ListN.{length, replicate, length-replicate, getD-replicate}
 use Rattle.decide.specs.Refusal.{accepted, firstThat}
 use Rattle.decide.proofs.Refusal.{accepted-passes}
 use Rattle.decide.proofs.Truth.{both-false, false-iff, not-less}
@@ -14,28 +14,18 @@ use Rattle.drawing.specs.Object.{Object}
 use Rattle.drawing.specs.Refusals.{order}
 use Rattle.drawing.specs.Drawing.{drawn, inTurn}
 use Rattle.drawing.proofs.Drawn.{drawn-holds, length-drawn}
-use Rattle.sheet.specs.Line.{lines, number}
-use Rattle.sheet.specs.Sheet.{Stroke, strokeOf, objectOf, markOut, curveOrder, Judged, good, bad, judge, judgeCurves}
+use Rattle.sheet.specs.Line.{number}
+use Rattle.sheet.specs.Sheet.{Stroke, strokeOf, objectOf, markOut, curveOrder, good, judge}
 use Rattle.sheet.specs.Call.{said}
 use Rattle.sheet.specs.Printed.{cubeOf}
-use Rattle.sheet_cube.proofs.Judged.{passes, good-first, strokesOf}
-use Rattle.sheet_cube.proofs.Drawing.{good-sheet}
+use Rattle.sheet_cube.proofs.Judged.{passes}
+use Rattle.sheet_cube.proofs.Drawing.{Each, good-strokes, good-sheet}
 use Rattle.sheet_cube.proofs.Called.{length-cube}
 use Rattle.totals.specs.Sums.{Bytes}
 use Rattle.totals.specs.Printed.{totalsPrinted, totalsOutput}
 use Rattle.totals.proofs.Sums.{counts-add-up, sums-add-up}
 use Rattle.totals.proofs.Numbers.{numbers-fit}
 use Rattle.claims.specs.Totals.{Claim}
-
--- The strokes of a good sheet.
-abbrev strokesIn : Judged → List Stroke
-strokesIn (good S strokes) = strokes
-strokesIn (bad n k) = []
-
--- Every mark is a byte.
-abbrev Marks : List Stroke → Type 0
-Marks [] = Unit
-Marks (s ∷ strokes) = (s .mark < 256) × Marks strokes
 
 -- The mark of an accepted curve line.
 mark-small : (S k : ℕ) (l : List ℕ) → firstThat (curveOrder S k l) ≡ accepted → strokeOf l .mark < 256
@@ -47,12 +37,9 @@ mark-small S k l e =
     let most = both-false (eqb (number l 0) 0) (ltb 255 (number l 0)) (c .0) .1 in
     omega (arith, not-less 255 (number l 0) (false-iff _ .0 most))
 
--- Those of the curve lines of a good sheet.
-good-marks : (S k : ℕ) (all : Judged) (ls : List (List ℕ)) {R : ℕ} {strokes : List Stroke} →
-    judgeCurves S k ls all ≡ good R strokes → Marks (map strokeOf ls)
-good-marks S k all [] e = tt
-good-marks S k all (l ∷ ls) e =
-    let g = good-first S all k l ls e in (mark-small S k l (g .0), good-marks S (suc k) all ls (g .1))
+-- Every mark is a byte.
+abbrev Marks : List Stroke → Type 0
+Marks strokes = Each (λ s. s .mark < 256) strokes
 
 -- One drawing more leaves bytes.
 drawn-bytes : (S : ℕ) (o : Object) (grid : List ℕ) → o .mark < 256 → Bytes grid → Bytes (drawn S o grid)
@@ -74,10 +61,7 @@ turns-bytes S (s ∷ strokes) grid small bytes =
 cube-bytes : (input : List ℕ) {S : ℕ} {strokes : List Stroke} → judge input ≡ good S strokes → Bytes (cubeOf S strokes)
 unfolding cubeOf
 cube-bytes input {S} {strokes} e =
-    let g = good-sheet input (ap said e) in
-    let these : strokesOf input ≡ strokes = ap strokesIn (sym (g .judged) ∙ e) in
-    let marks : Marks (strokesOf input) = good-marks S 2 _ (lines (drop 6 input)) (sym (g .left .judged) ∙ e) in
-    turns-bytes S strokes (replicate (volume S) 0) (rw these at marks)
+    turns-bytes S strokes (replicate (volume S) 0) (good-strokes (λ s. s .mark < 256) S (mark-small S) input e)
     (λ q l. rw (getD-replicate {A = ℕ} (volume S) q 0 0 (omega (arith, l, length-replicate {A = ℕ} (volume S) 0))) (omega arith))
 
 pub claim : Claim

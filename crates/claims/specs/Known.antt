@@ -4,6 +4,7 @@ use mathlib.Core.Bool.{Bool, true, false, _&&_}
 use mathlib.Core.List.{List, [], _∷_, map}
 use Prim.Native.Nat.{ℕ, _+_, _-_}
 use lib.Dec.{eqb}
+use Rattle.decide.specs.Same.{sameBytes}
 use Rattle.decide.specs.Refusal.{Verdict, accepted, refused}
 use Rattle.cube.specs.Cube.{x-axis, volume}
 use Rattle.drawing.specs.Object.{Object, curve, patch, scaleOf, exact, cellOf}
@@ -63,12 +64,6 @@ abbrev alongX : List ℕ → List ℕ
 alongX [] = []
 alongX (g ∷ gs) = g ∷ 0 ∷ 0 ∷ alongX gs
 
-abbrev same : List ℕ → List ℕ → Bool
-same [] [] = true
-same [] (b ∷ bs) = false
-same (a ∷ l) [] = false
-same (a ∷ l) (b ∷ bs) = eqb a b && same l bs
-
 abbrev isAccepted : Verdict → Bool
 isAccepted accepted = true
 isAccepted (refused k) = false
@@ -80,7 +75,7 @@ isRefused k (refused l) = eqb k l
 -- An object does what is said of it along the row with n steps and the later indices `is`.
 abbrev does : Object → (n : ℕ) (is : List ℕ) → Says → Bool
 does o n is (cells xs) =
-    isAccepted (drawVerdict 8 (volume 8) o) && same (bytes (map (cellOf o) (row n is))) (alongX xs)
+    isAccepted (drawVerdict 8 (volume 8) o) && sameBytes (bytes (map (cellOf o) (row n is))) (alongX xs)
 does o n is accepts = isAccepted (drawVerdict 8 (volume 8) o)
 does o n is (refuses k) = isRefused k (drawVerdict 8 (volume 8) o)
 does o n is (last-step top bottom) =

@@ -9,7 +9,7 @@ use Rattle.sheet.specs.Sheet.{Stroke, good, judge}
 use Rattle.claims.specs.Strokes.{drawing, StrokesDrawn}
 
 -- After an accepted sheet call the buffer's first S × S × S bytes hold the drawing of the sheet's strokes, one for each
--- curve line, and demand 3 is kept for them.
+-- curve line, and demand 3 is kept for them: every one of them is accepted and drawn.
 pub record SheetDrawn (input bufferNow : List ℕ) (S curves : ℕ) : Type 0 where
   pub strokes : List Stroke
   pub judged : judge input ≡ good S strokes

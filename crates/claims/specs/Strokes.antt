@@ -20,12 +20,11 @@ callOf S s = draw-curve S (s .steps) (s .points) (s .mark)
 abbrev pub drawing : (S : ℕ) → List Stroke → List ℕ
 drawing S strokes = run (map (callOf S) strokes) (unmarked S)
 
--- Demand 3 for strokes: in the end each cell is unmarked or holds the mark of a stroke near it, and just after each
--- accepted stroke its samples have their cells as demand 3 says.
+-- Demand 3 for strokes: in the end each cell is unmarked or holds the mark of a stroke near it; every stroke is
+-- accepted, and just after it its samples have their cells as demand 3 says.
 pub record StrokesDrawn (S : ℕ) (strokes : List Stroke) : Type 0 where
   pub each-cell : (c : Cell) → Inside S c →
       (getD (drawing S strokes) (place S c) 0 ≡ 0) ⊎
       MarkOfNearObject (volume S) (map (callOf S) strokes) c (getD (drawing S strokes) (place S c) 0)
   pub each-stroke : (before after : List Stroke) (s : Stroke) → strokes ≡ before ++ s ∷ after →
-      Accepted (volume S) (callOf S s) →
-      JustDrawn S (objectOf s) (drawing S (before ++ s ∷ []))
+      Accepted (volume S) (callOf S s) × JustDrawn S (objectOf s) (drawing S (before ++ s ∷ []))

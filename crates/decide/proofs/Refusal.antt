@@ -4,9 +4,13 @@ use mathlib.Core.Path.{_≡_, refl, sym, ap, _∙_}
 use mathlib.Core.Logic.{_↔_, _≢_, _⊎_, inl, inr, ⊎-elim}
 use mathlib.Core.Bool.{Bool, true, false, cond}
 use mathlib.Core.List.{List, [], _∷_, _++_}
-use Prim.Native.Nat.{ℕ}
+use Prim.Native.Nat.{ℕ, _≤_}
 use native.Mathlib.Omega.{arith}
-use Rattle.decide.specs.Refusal.{Rule, _when_, Verdict, accepted, refused, firstThat, orElse}
+use lib.Dec.{ltb}
+use borrow.Author.Tests.{ltb-false}
+use Rattle.decide.specs.Some.{someOf}
+use Rattle.decide.specs.Refusal.{Rule, _when_, Verdict, accepted, refused, firstThat, numbers, orElse}
+use Rattle.decide.proofs.Truth.{both-false}
 
 -- No rule of the order applies.
 abbrev pub NoneApplies : List Rule → Type 0
@@ -65,6 +69,18 @@ refused-of-first (there a f) = rw a (refused-of-first f)
 -- A number is answered exactly where its rule is the first that applies.
 pub refused-first : (rules : List Rule) (k : ℕ) → (firstThat rules ≡ refused k) ↔ FirstApplies k rules
 refused-first rules k = (first-of-refused rules k, refused-of-first)
+
+-- Where no number of an order is above m, neither is the one that is answered.
+pub refused-most : (m : ℕ) (rules : List Rule) {k : ℕ} → someOf (ltb m) (numbers rules) ≡ false →
+    firstThat rules ≡ refused k → k ≤ m
+unfolding someOf numbers
+refused-most m rules none e = first-most (first-of-refused rules _ e) none
+  where
+    first-most : {k : ℕ} {rules : List Rule} → FirstApplies k rules → someOf (ltb m) (numbers rules) ≡ false → k ≤ m
+    first-most (here {r} {rs} a e) none =
+        rw e at (ltb-false m (r .number) (both-false (ltb m (r .number)) (someOf (ltb m) (numbers rs)) none .0))
+    first-most (there {r} {rs} a f) none =
+        first-most f (both-false (ltb m (r .number)) (someOf (ltb m) (numbers rs)) none .1)
 
 -- A rule with another number, before the first that applies, does not apply.
 pub passed-over : {k : ℕ} {r : Rule} {rs : List Rule} → FirstApplies k (r ∷ rs) → r .number ≢ k →

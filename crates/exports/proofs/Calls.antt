@@ -6,22 +6,41 @@ use lib.IntN.{ℤ, pos}
 use lib.ListN.{length}
 use borrow.Author.Tests.{ne-eqb, eq-eqb}
 use Rattle.decide.specs.Refusal.{Verdict, refused, firstThat}
+use Rattle.drawing.specs.Object.{Object}
+use Rattle.drawing.specs.Refusals.{checkVerdict}
 use Rattle.scan.specs.declared.answer.Answer.{Answer}
 use Rattle.scan.specs.declared.answer.Answer.the-variants as answer
 use Rattle.scan.specs.Answer.{Says}
 use Rattle.exports.specs.Signed.{minus, signed, ofLength}
 use Rattle.exports.specs.Answer.{numberOf}
-use Rattle.exports.specs.Records.{Calls}
+use Rattle.exports.specs.Records.{Calls, ChecksBytes}
 
 -- A record of its length leaves it to the call, and one of another length is refused.
 module _ (size : ℕ) (bytes : List ℕ) (v : Verdict) where
-  pub right-length : length bytes ≡ size → ofLength size bytes v ≡ v
+  right-length : length bytes ≡ size → ofLength size bytes v ≡ v
   unfolding firstThat
   right-length e = rw (eq-eqb (length bytes) size e) refl
 
-  pub wrong-length : (length bytes ≡ size → ⊥) → ofLength size bytes v ≡ refused 51
+  wrong-length : (length bytes ≡ size → ⊥) → ofLength size bytes v ≡ refused 51
   unfolding firstThat
   wrong-length n = rw (ne-eqb (length bytes) size n) refl
+
+module _ (size : ℕ) (bytes : List ℕ) (v : Verdict) (n : ℕ) {r : ℤ} where
+  wrong-answer : (length bytes ≡ size → ⊥) → r ≡ minus 51 → r ≡ signed (ofLength size bytes v) n
+  wrong-answer w e = e ∙ ap (λ u. signed u n) (sym (wrong-length size bytes v w))
+
+  right-answer : length bytes ≡ size → r ≡ signed v n → r ≡ signed (ofLength size bytes v) n
+  right-answer h e = e ∙ ap (λ u. signed u n) (sym (right-length size bytes v h))
+
+-- A check, by the object that the record's bytes stand for.
+module _ (size S : ℕ) (o : Object) {r : ℤ} where
+  pub wrong-check : (length (o .points) ≡ size → ⊥) → r ≡ minus 51 → ChecksBytes size S o r
+  wrong-check w e = wrong-answer size (o .points) (checkVerdict S o) 0 w e
+
+  pub right-check : (p : Object) {v : Verdict} → length (o .points) ≡ size → p ≡ o → v ≡ checkVerdict S p → r ≡ signed v 0 →
+      ChecksBytes size S o r
+  right-check p h same found e =
+      right-answer size (o .points) (checkVerdict S o) 0 h (e ∙ ap (λ u. signed u 0) (found ∙ ap (checkVerdict S) same))
 
 -- The number of an answer.
 pub says-number : (v : Verdict) (n : ℕ) (a : Answer) → Says v n a → numberOf a ≡ signed v n
@@ -31,13 +50,13 @@ says-number v n (answer.Refused k) s = ap (λ u. signed u n) (sym s)
 module _ (size : ℕ) (bytes : List ℕ) (v : Verdict) (n : ℕ) (left before : List ℕ) where
   pub wrong-record : {r : ℤ} → (length bytes ≡ size → ⊥) → r ≡ minus 51 → Calls size bytes v n left before before r
   wrong-record w e = record {
-    answer = e ∙ ap (λ u. signed u n) (sym (wrong-length size bytes v w));
+    answer = wrong-answer size bytes v n w e;
     leaves = rw (ne-eqb (length bytes) size w) refl;
   }
 
   pub right-record : (a : Answer) {after : List ℕ} {r : ℤ} → length bytes ≡ size → Says v n a → after ≡ left → r ≡ numberOf a →
       Calls size bytes v n left before after r
   right-record a h s l e = record {
-    answer = e ∙ says-number v n a s ∙ ap (λ u. signed u n) (sym (right-length size bytes v h));
+    answer = right-answer size bytes v n h (e ∙ says-number v n a s);
     leaves = l ∙ rw (eq-eqb (length bytes) size h) refl;
   }

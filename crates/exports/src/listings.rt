@@ -37,7 +37,7 @@ pub extern "C" fn gidzkhalu_totals(side: u32, cube: &[u8], text: &mut [u8]) -> i
 
 #[no_mangle]
 pub extern "C" fn gidzkhalu_refusal_line(number: u32, line: u32, text: &mut [u8]) -> i64
-    ensures { λ r. ⌜ WritesSigned (firstThat (lineOrder (length (now (text .entry))))) (refusalLine number line)
+    ensures { λ r. ⌜ WritesSigned (firstThat (lineOrder number line (length (now (text .entry))))) (refusalLine number line)
         (now (text .entry)) (now (text .exit)) r ⌝ }
 {
     of_written(sheet_text::refusal_line(number, line, text))

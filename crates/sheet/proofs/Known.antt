@@ -2,6 +2,7 @@
 use lib.Dec.{T}
 use Rattle.bezier.specs.Exact.{blend, scale, points, value}
 use Rattle.decide.specs.Some.{someBelow, someOf}
+use Rattle.decide.specs.Same.{sameBytes}
 use Rattle.decide.specs.Refusal.{firstThat}
 use Rattle.walk.specs.Walk.{withinHalf, towards, move, walk, cell}
 use Rattle.walk.specs.Steps.{farApart, someSample, tooLong}
@@ -13,7 +14,7 @@ use Rattle.sheet.specs.Field.{isDigit, areDigits, afterBlanks, isNumber,
 use Rattle.sheet.specs.Line.{before, lines, isWrong, someBad, inLine}
 use Rattle.sheet.specs.Sheet.{sideOrder, markOut, curveOrder, judgeCurves, judgeLines, judge}
 use Rattle.sheet.specs.Printed.{cubeOf, cellLine, cellLines, listing, refusalLine, output}
-use Rattle.sheet.specs.Known.{times, known, sameBytes, allPrint}
+use Rattle.sheet.specs.Known.{times, known, allPrint}
 
 pub known-print : T (allPrint output known)
 unfolding blend scale points value someBelow someOf firstThat withinHalf towards move walk cell farApart someSample tooLong

@@ -1,10 +1,10 @@
 -- Sheets and what is printed for them: document 01's sample sheet, the empty input, a sheet for each refusal number and
 -- for numbers that apply together, and good sheets.
-use mathlib.Core.Bool.{Bool, true, false, _&&_}
+use mathlib.Core.Bool.{Bool, true, _&&_}
 use mathlib.Core.List.{List, [], _∷_, _++_}
 use Prim.Native.Nat.{ℕ, zero, suc}
-use lib.Dec.{eqb}
 use lib.ListN.{take, drop}
+use Rattle.decide.specs.Same.{sameBytes}
 use Rattle.sheet.specs.Line.{asLine}
 use Rattle.sheet.specs.Printed.{heading}
 
@@ -114,13 +114,6 @@ known =
     -- a byte after the 200th curve line
     (side 2 ++ times 200 (stroke 1 1 0) ++ 10 ∷ []) prints refused-with 44 202 ∷
     []
-
--- The same bytes.
-unfoldable pub sameBytes : List ℕ → List ℕ → Bool
-sameBytes [] [] = true
-sameBytes [] (b ∷ bs) = false
-sameBytes (a ∷ bs) [] = false
-sameBytes (a ∷ bs) (b ∷ cs) = eqb a b && sameBytes bs cs
 
 -- A program, from input to output, prints for every input what is listed.
 unfoldable pub allPrint : (program : List ℕ → List ℕ) → List Known → Bool

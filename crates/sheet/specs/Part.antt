@@ -1,5 +1,5 @@
 -- A listing, and the refusal line, written into a lent text: a listing in parts, by ranges of byte places.
-use mathlib.Core.Bool.{Bool, cond, not}
+use mathlib.Core.Bool.{Bool, cond, not, _||_}
 use mathlib.Core.List.{List, [], _∷_, _++_}
 use Prim.Native.Nat.{ℕ, _+_, _*_}
 use lib.Dec.{ltb, eqb}
@@ -24,9 +24,13 @@ textOrder S cubeLength short =
 abbrev pub partOrder : (S count cubeLength textLength : ℕ) → List Rule
 partOrder S count cubeLength textLength = textOrder S cubeLength (ltb textLength (21 * (count + 1)))
 
--- The refusal line's order. 22: the text is shorter than 18 bytes.
-unfoldable pub lineOrder : (textLength : ℕ) → List Rule
-lineOrder textLength = 22 when ltb textLength 18 ∷ []
+-- The refusal line's order. 54: the number or the line is above 99999, which 5 columns do not hold. Document 01 has no
+-- number for it. 22: the text is shorter than 18 bytes.
+unfoldable pub lineOrder : (number line textLength : ℕ) → List Rule
+lineOrder number line textLength =
+    54 when (ltb 99999 number || ltb 99999 line) ∷
+    22 when ltb textLength 18 ∷
+    []
 
 -- What a text holds with bytes written from its front.
 abbrev pub over : (written text : List ℕ) → List ℕ

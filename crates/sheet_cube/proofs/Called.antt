@@ -2,30 +2,27 @@
 use mathlib.Core.Path.{_≡_, refl, sym, _∙_, ap, subst}
 use mathlib.Core.Logic.{⊎-elim}
 use mathlib.Core.List.{List, [], _∷_, _++_}
-use Prim.Native.Nat.{ℕ, suc, _≤_}
+use Prim.Native.Nat.{ℕ, _≤_}
 use native.Mathlib.Nat.{mul-le-mul}
 use native.Mathlib.Omega.{arith}
-use lib.Dec.{eqb, lit≤}
-use borrow.Author.Tests.{ne-eqb, ltb-false}
+use lib.Dec.{eqb}
+use borrow.Author.Tests.{ne-eqb}
 use lib.ListN.{length, take, drop, replicate, length-replicate}
 use lib.Seq.{take-at, length-take-le}
-use Rattle.decide.specs.Refusal.{firstThat}
-use Rattle.decide.proofs.Refusal.{by-verdict}
 use Rattle.decide.proofs.Truth.{decided, equal}
 use Rattle.cube.specs.Cube.{volume}
 use Rattle.drawing.specs.Drawing.{drawn, inTurn}
 use Rattle.drawing.proofs.Drawn.{length-drawn}
-use Rattle.sheet.specs.Line.{lines, number}
-use Rattle.sheet.specs.Sheet.{Stroke, objectOf, sideOrder, curveOrder, Judged, good, bad, judgeCurves, judge}
+use Rattle.sheet.specs.Sheet.{Stroke, objectOf, Judged, good, bad, judge}
 use Rattle.sheet.specs.Printed.{cubeOf}
+use Rattle.sheet.proofs.Sheet.{bad-small}
 use Rattle.sheet.specs.Call.{judgeCall, Said, drew, refused, said, bufferAfter}
 use Rattle.sheet_cube.specs.declared.Size.{Size}
 use Rattle.sheet_cube.specs.declared.Refusal.{Refusal}
 use Rattle.sheet_cube.specs.declared.Answer.{Answer}
 use Rattle.sheet_cube.specs.declared.Answer.the-variants as answer
 use Rattle.sheet_cube.specs.Answer.{saidOf, DrawsSheet}
-use Rattle.sheet_lines.specs.Read.{firstLine}
-use Rattle.sheet_cube.proofs.Judged.{good≢bad, passes, curve-refused, curve-accepted, side-refused, side-accepted}
+use Rattle.sheet_cube.proofs.Judged.{good≢bad}
 use Rattle.sheet_cube.proofs.Drawing.{is-good, GoodSheet, good-sheet, whole-buffer}
 
 -- A cube keeps its length.
@@ -73,28 +70,6 @@ pub is-bad : (j : Judged) {n k : ℕ} → said j ≡ refused n k → j ≡ bad n
 is-bad (good S strokes) e = absurd (subst isRefused (sym e) tt)
 is-bad (bad n k) e = ap (λ s. bad (numberOf s) (lineOf s)) e
 
-abbrev lineIn : Judged → ℕ
-lineIn (good S strokes) = 0
-lineIn (bad n k) = k
-
--- The refused line is line 202 at most.
-curves-line : (S k : ℕ) (all : Judged) (ls : List (List ℕ)) → k ≤ 202 → lineIn all ≤ 202 →
-    lineIn (judgeCurves S k ls all) ≤ 202
-unfolding judgeCurves
-curves-line S k all [] h a = a
-curves-line S k all (l ∷ ls) h a =
-    by-verdict (firstThat (curveOrder S k l)) (lineIn (judgeCurves S k (l ∷ ls) all) ≤ 202)
-    (λ e.
-    let few = ltb-false 201 k (passes l e .few) in
-    rw (curve-accepted S all k l ls e) (curves-line S (suc k) all ls (omega (arith, few)) a))
-    (λ n e. rw (curve-refused S all k l ls e) h)
-
-judge-line : (input : List ℕ) → lineIn (judge input) ≤ 202
-judge-line input =
-    by-verdict (firstThat (sideOrder (firstLine input))) (lineIn (judge input) ≤ 202)
-    (λ e. rw (side-accepted input e) (curves-line (number (firstLine input) 0) 2 _ (lines (drop 6 input)) (lit≤ tt) (lit≤ tt)))
-    (λ n e. rw (side-refused input e) (lit≤ tt))
-
 module _ {input buffer bufferNow : List ℕ} {r : Answer} (d : DrawsSheet input buffer bufferNow r) where
   pub called-accepted : {S n : ℕ} → saidOf r ≡ drew S n → Accepted input bufferNow S n
   called-accepted {S} e =
@@ -120,12 +95,10 @@ module _ {input buffer bufferNow : List ℕ} {r : Answer} (d : DrawsSheet input 
   line-most {k = k} e =
       let j = is-bad (judgeCall input buffer) (sym (d .answer) ∙ e) in
       ⊎-elim
-      (λ t.
-      let g = ap lineIn (sym j ∙ buffer-good input buffer (equal (length buffer) 64000 .0 t)) in
-      omega (arith, g, judge-line input))
+      (λ t. bad-small input (sym (buffer-good input buffer (equal (length buffer) 64000 .0 t)) ∙ j) .1)
       (λ f.
-      let g = ap lineIn (sym j ∙ buffer-bad input buffer (λ q. f (equal (length buffer) 64000 .1 q))) in
-      omega (arith, g))
+      let z : k ≡ 0 = cc (buffer-bad input buffer (λ q. f (equal (length buffer) 64000 .1 q))) in
+      omega arith)
       (decided (eqb (length buffer) 64000))
 
 -- A call answers and leaves what its contract says: with a buffer of another length,

@@ -86,6 +86,31 @@ good-sheet input {S} {n} e =
     })
     (λ k r. absurd (good≢bad (sym (g .good) ∙ side-refused input r)))
 
+-- What holds of every stroke of a list.
+abbrev pub Each : (P : Stroke → Type 0) → List Stroke → Type 0
+Each P [] = Unit
+Each P (s ∷ strokes) = P s × Each P strokes
+
+-- It holds of each of them, wherever it stands.
+pub each-one : (P : Stroke → Type 0) (before after : List Stroke) (s : Stroke) → Each P (before ++ s ∷ after) → P s
+each-one P [] after s all = all .0
+each-one P (b ∷ before) after s all = each-one P before after s (all .1)
+
+-- What holds of the stroke of every accepted curve line holds of every stroke of a good sheet.
+module _ (P : Stroke → Type 0) (S : ℕ)
+    (accepted-line : (k : ℕ) (l : List ℕ) → firstThat (curveOrder S k l) ≡ accepted → P (strokeOf l)) where
+  good-curves : (k : ℕ) (all : Judged) (ls : List (List ℕ)) {R : ℕ} {strokes : List Stroke} →
+      judgeCurves S k ls all ≡ good R strokes → Each P (map strokeOf ls)
+  good-curves k all [] e = tt
+  good-curves k all (l ∷ ls) e =
+      let g = good-first S all k l ls e in (accepted-line k l (g .0), good-curves (suc k) all ls (g .1))
+
+  pub good-strokes : (input : List ℕ) {strokes : List Stroke} → judge input ≡ good S strokes → Each P strokes
+  good-strokes input {strokes} e =
+      let g = good-sheet input (ap said e) in
+      let these : strokesOf input ≡ strokes = ap strokesIn (sym (g .judged) ∙ e) in
+      subst (Each P) these (good-curves 2 _ (lines (drop 6 input)) (sym (g .left .judged) ∙ e))
+
 -- What is left of a sheet after line 1 and i curve lines.
 abbrev pub rest : (input : List ℕ) (i : ℕ) → List ℕ
 rest input i = drop (6 + 71 * i) input

@@ -1,4 +1,5 @@
-// Stroke sheets: judged line by line, then drawn.
+// Stroke sheets: judged line by line, then drawn. Open to callers: `draw_sheet`. Whatever else is `pub` is so for the
+// crates above.
 
 mod draw;
 mod judge;

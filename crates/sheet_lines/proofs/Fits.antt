@@ -1,7 +1,7 @@
 -- A curve line fits exactly where what is read of its fields fits, and its stroke is then what is read.
-use mathlib.Core.Path.{_≡_, refl, sym, _∙_, subst}
+use mathlib.Core.Path.{_≡_, refl, sym, _∙_, ap, subst}
 use mathlib.Core.Logic.{_↔_}
-use mathlib.Core.Bool.{Bool, true, false, not, _&&_, true≢false, false≢true}
+use mathlib.Core.Bool.{Bool, true, false, cond, not, _&&_, true≢false, false≢true}
 use mathlib.Core.List.{List, [], _∷_}
 use Prim.Native.Nat.{ℕ, zero, suc, _+_, _≤_, _<_}
 use native.Mathlib.Omega.{arith}
@@ -11,12 +11,13 @@ use borrow.Author.Tests.{not-true, ne-eqb, le-ltb, eqb-false, ltb-false}
 use Rattle.decide.specs.Some.{someBelow}
 use Rattle.decide.proofs.Truth.{both-false, true-of, false-of, false-iff}
 use Rattle.decide.proofs.Some.{some-below}
-use Rattle.drawing.specs.Object.{curve}
 use Rattle.drawing.specs.Refusals.{countOut}
+use Rattle.curve.specs.Curve.{curveOf}
 use Rattle.sheet.specs.Field.{isBad}
 use Rattle.sheet.specs.Line.{field, number, someBad}
 use Rattle.sheet.specs.Sheet.{markOut, strokeOf, objectOf}
-use Rattle.sheet_lines.specs.Read.{readField, fits, firstOf, unfitRefusal}
+use Rattle.sheet_lines.specs.declared.line.Read.{Read}
+use Rattle.sheet_lines.specs.Read.{readField, fits, fitRead, unfitRead, readLine, firstOf, unfitRefusal}
 use Rattle.sheet_lines.proofs.Fields.{value-below, good-read, good-below}
 
 -- No index below n passes.
@@ -152,10 +153,29 @@ unfolding listed
 points-at l k h = listed-at (number l) 2 12 k h
 
 -- What is read of a line that fits, coordinate by coordinate, is its stroke.
-pub curve-read : (l ps : List ℕ) (n m : ℕ) → fits l ≡ true → m ≡ readField (field l 0) → n ≡ readField (field l 1) →
+pub fit-line : (l ps : List ℕ) (n m : ℕ) → fits l ≡ true → m ≡ readField (field l 0) → n ≡ readField (field l 1) →
     length ps ≡ 12 → ((k : ℕ) → k < 12 → getD ps k 0 ≡ readField (field l (k + 2))) →
-    curve n ps m ≡ objectOf (strokeOf l)
-unfolding listed
-curve-read l ps n m e mark steps twelve at =
+    record { curve = record { points = ps; steps = n; mark = m }; fits = true } ≡ readLine l
+unfolding listed readLine
+fit-line l ps n m e mark steps twelve at =
     let points = all-listed (number l) 2 ps 12 twelve (λ k h. at k h ∙ fit-read l e (k + 2) (omega arith)) in
-    rw (mark ∙ fit-read l e 0 (omega arith), steps ∙ fit-read l e 1 (omega arith), points)
+    rw (mark ∙ fit-read l e 0 (omega arith), steps ∙ fit-read l e 1 (omega arith), points, e)
+
+-- A line that does not fit is read as a record of zeros.
+pub unfit-line : (l : List ℕ) → (Fitting l → ⊥) → unfitRead ≡ readLine l
+unfolding readLine
+unfit-line l none = rw (unfits l none)
+
+-- What a line that was read says.
+module _ (l : List ℕ) {r : Read} (e : r ≡ readLine l) where
+  pub read-fits : r .fits ≡ fits l
+  unfolding readLine
+  read-fits = ap (λ q. q .fits) e ∙ by-test (fits l)
+    where
+      by-test : (t : Bool) → cond t (fitRead l) unfitRead .fits ≡ t
+      by-test true = refl
+      by-test false = refl
+
+  pub read-curve : fits l ≡ true → curveOf (r .curve) ≡ objectOf (strokeOf l)
+  unfolding readLine
+  read-curve f = ap (λ q. curveOf (q .curve)) (e ∙ ap (λ t. cond t (fitRead l) unfitRead) f)

@@ -1,4 +1,5 @@
-// Fields and lines of a stroke sheet, read from its bytes.
+// Fields and lines of a stroke sheet, read from its bytes. Open to callers: `field::digits` and `field::number`. Whatever
+// else is `pub` is so for the crates above.
 
 pub mod field;
 pub mod line;

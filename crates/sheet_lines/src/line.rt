@@ -1,12 +1,11 @@
 // A line of a stroke sheet: where it ends, its numbers, and a curve line's curve.
 ghost use mathlib.Core.Path.{_≡_};
-ghost use mathlib.Core.Bool.{true, false, not};
+ghost use mathlib.Core.Bool.{not};
 ghost use Prim.Native.Nat.{_+_, _*_, _≤_};
 ghost use lib.ListN.{length};
-ghost use Rattle.curve.specs.Curve.{curveOf};
 ghost use Rattle.sheet.specs.Line.{field, isWrong, someBad};
-ghost use Rattle.sheet.specs.Sheet.{markOut, strokeOf, objectOf};
-ghost use Rattle.sheet_lines.specs.Read.{readField, firstLine, fits, firstOf, unfitRefusal};
+ghost use Rattle.sheet.specs.Sheet.{markOut};
+ghost use Rattle.sheet_lines.specs.Read.{readField, firstLine, unfitRead, readLine, firstOf, unfitRefusal};
 use crate::field::number;
 use curve::Curve;
 
@@ -39,7 +38,8 @@ pub fn is_line(rest: &[u8], fields: usize) -> bool
     !broken && rest[last] == b'\n'
 }
 
-// A curve line as read: its curve, if every field is good, the mark from 1 to 255 and every coordinate a byte.
+// A curve line as read: its curve, if every field is good, the mark from 1 to 255 and every coordinate a byte; and else
+// a record of zeros.
 pub struct Read {
     pub curve: Curve,
     pub fits: bool,
@@ -48,8 +48,7 @@ pub struct Read {
 // Reads each field of a curve line once, up to one that does not fit.
 pub fn read_curve(line: &[u8]) -> Read
     requires { ⌜ 70 ≤ length (now line) ⌝ }
-    ensures { λ r. ⌜ r .fits ≡ fits (now (line .entry)) ⌝ }
-    ensures { λ r. ⌜ (r .fits ≡ true → curveOf (r .curve) ≡ objectOf (strokeOf (now (line .entry)))) ⌝ }
+    ensures { λ r. ⌜ r ≡ readLine (now (line .entry)) ⌝ }
 {
     let mark = number_at(line, 0);
     if is_mark_out(mark) {
@@ -79,7 +78,7 @@ pub fn read_curve(line: &[u8]) -> Read
 
 // What a line that does not fit is read as.
 fn unfit() -> Read
-    ensures { λ r. ⌜ r .fits ≡ false ⌝ }
+    ensures { λ r. ⌜ r ≡ unfitRead ⌝ }
 {
     let curve = Curve {
         points: [0u8; 12],

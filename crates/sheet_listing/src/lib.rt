@@ -1,4 +1,5 @@
-// The listing of a colour cube as text, in parts.
+// The listing of a colour cube as text, in parts. Open to callers: `list_part`. Whatever else is `pub` is so for the
+// crates above.
 mod cells;
 
 ghost use mathlib.Core.Path.{_≡_};
@@ -40,7 +41,7 @@ pub fn list_planes(side: u32, cube: &[u8], z: usize, text: &mut [u8]) -> Planes
     requires { ⌜ length (now cube) ≡ volume side ⌝ }
     requires { ⌜ z < side ⌝ }
     requires { ⌜ 33621 ≤ length (now text) ⌝ }
-    ensures { λ r. ⌜ ListsPlanes side (now (cube .entry)) z (length (now (text .entry))) (now (text .exit)) r ⌝ }
+    ensures { λ r. ⌜ ListsPlanes side (now (cube .entry)) z (now (text .entry)) (now (text .exit)) r ⌝ }
 {
     let s = side as usize;
     let plane = s * s;

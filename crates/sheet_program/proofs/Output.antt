@@ -18,8 +18,8 @@ use Rattle.sheet_program.proofs.Drawn.{Drawn, Refused}
 -- Planes listed in turn from plane z to the last, one write for some planes each.
 pub data InTurn (S : ℕ) (cube : List ℕ) : (z : ℕ) (writes : List (List ℕ)) → Type 0 where
   done : InTurn S cube S []
-  some : {z : ℕ} {write : List ℕ} {writes : List (List ℕ)} {textLength : ℕ} {text : List ℕ} {r : Planes} →
-      ListsPlanes S cube z textLength text r → write ≡ take (r .bytes) text → InTurn S cube (r .next) writes →
+  some : {z : ℕ} {write : List ℕ} {writes : List (List ℕ)} {before text : List ℕ} {r : Planes} →
+      ListsPlanes S cube z before text r → write ≡ take (r .bytes) text → InTurn S cube (r .next) writes →
       InTurn S cube z (write ∷ writes)
 
 -- All that is written.

@@ -1,4 +1,5 @@
-// Text written into lent bytes: what the calls that write it answer, and the refusal line.
+// Text written into lent bytes: what the calls that write it answer, and the refusal line. Open to callers:
+// `refusal_line`. Whatever else is `pub` is so for the crates above.
 pub mod text;
 
 ghost use mathlib.Core.Path.{_≡_};
@@ -31,11 +32,14 @@ pub fn refusal(side: u32, cube: usize, short: bool) -> u32
     if short { 22 } else { 0 }
 }
 
-// Writes the refusal line. Refused: 22.
+// Writes the refusal line. Refused: 54, 22.
 pub fn refusal_line(number: u32, line: u32, text: &mut [u8]) -> Written
-    ensures { λ r. ⌜ Writes (firstThat (lineOrder (length (now (text .entry))))) (refusalLine number line)
+    ensures { λ r. ⌜ Writes (firstThat (lineOrder number line (length (now (text .entry))))) (refusalLine number line)
         (now (text .entry)) (now (text .exit)) r ⌝ }
 {
+    if 99999 < number || 99999 < line {
+        return Written::Refused(54);
+    }
     if text.len() < 18 {
         return Written::Refused(22);
     }

@@ -2,6 +2,7 @@
 use lib.Dec.{T}
 use Rattle.bezier.specs.Exact.{blend, scale, points, value}
 use Rattle.decide.specs.Some.{someBelow, someOf}
+use Rattle.decide.specs.Same.{sameBytes}
 use Rattle.decide.specs.Refusal.{firstThat}
 use Rattle.walk.specs.Walk.{withinHalf, towards, move, walk, cell}
 use Rattle.walk.specs.Steps.{farApart, someSample, tooLong}
@@ -13,7 +14,7 @@ use Rattle.sheet.specs.Field.{isDigit, areDigits, afterBlanks, isNumber, digits
 use Rattle.sheet.specs.Line.{before, lines, isWrong, someBad, inLine}
 use Rattle.sheet.specs.Sheet.{sideOrder, markOut, curveOrder, judgeCurves, judgeLines, judge}
 use Rattle.sheet.specs.Printed.{cubeOf, refusalLine}
-use Rattle.sheet.specs.Known.{sameBytes, allPrint}
+use Rattle.sheet.specs.Known.{allPrint}
 use Rattle.totals.specs.Totals.{sumOver, heldFrom, markLines, totals}
 use Rattle.totals.specs.Printed.{totalsOutput}
 use Rattle.totals.specs.Known.{known}

@@ -1,20 +1,19 @@
--- `list_planes` meets its contract: plane by plane, the text begins with the listing of the planes so far.
+-- `list_planes` meets its contract: plane by plane, the listing of the planes so far is written from the front.
 use borrow.Author.Needs.{needs}
-use borrow.Author.Tests.{leb-true}
-use Prim.Native.Nat.{ℕ, _-_, _*_, _≤_}
+use borrow.Author.Tests.{leb-true, leb-false}
+use Prim.Native.Nat.{ℕ, _+_, _-_, _*_, _≤_, _<_}
 use native.Mathlib.Nat.{mul-le-mul}
 use native.Mathlib.Omega.{arith}
 use lib.ListN.{length}
 use denote.Ref.{now}
 use Rattle.sheet_listing.specs.ByPlane.{ListsPlanes}
-use Rattle.sheet_text.proofs.Puts.{puts-length}
-use Rattle.sheet_listing.proofs.ByPlane.{first-plane, next-plane}
+use Rattle.sheet_listing.proofs.ByPlane.{SoFar, first-plane, next-plane, no-more}
 use Rattle.sheet_listing.proofs.list_planes.Statement.{statement}
 use Rattle.sheet_listing.proofs.list_planes.Tie as tie
 
 abbrev Inv-loop : tie.InvT-loop
 Inv-loop side cube z text₀ s plane room bytes₀ next₀ text bytes next =
-    ListsPlanes side cube z (length text₀) text (record { next = next; bytes = bytes })
+    SoFar side cube z text₀ bytes₀ text next bytes
 
 abbrev μ-loop : tie.MeasureT-loop
 μ-loop side cube z text₀ s plane room bytes₀ next₀ text bytes next = side - next
@@ -50,8 +49,7 @@ loop-holds : tie.Need-loop-holds Inv-loop μ-loop
 loop-holds c =
     let s = c .before .before .before .before .before .before in
     let p = c .before .before .put-part .ensures in
-    rw (puts-length p)
-    (first-plane (s .args .side) (now (s .args .cube)) (s .args .z) (omega arith) (omega (arith, square (s .pre .0 .1))) p)
+    first-plane (s .args .side) (now (s .args .cube)) (s .args .z) (omega arith) (omega (arith, square (s .pre .0 .1))) p
 
 sub-if1 : tie.Need-sub-if1 Inv-loop μ-loop
 sub-if1 c = omega (arith, c .before .loop .inv .fits, c .before .loop .inv .size)
@@ -77,22 +75,33 @@ loop-again : tie.Need-loop-again Inv-loop μ-loop
 loop-again c =
     let l = c .before .before .before .before .before .before in
     let s = l .before .before .before .before .before .before .before in
-    next-plane (s .args .side) (now (s .args .cube)) (s .args .z) (l .loop .inv) (omega arith) (omega (arith, leb-true))
-    (c .before .before .put-part2 .ensures)
+    next-plane (s .args .side) (now (s .args .cube)) (s .args .z) (l .loop .inv)
+    (l .before .before .before .put-part .ensures) (omega arith) (omega (arith, leb-true)) (c .before .before .put-part2 .ensures)
+
+-- The listing is whole, of the text that was lent, where it does not go on.
+module _ (l : tie.At-loop Inv-loop μ-loop) where
+  abbrev start : tie.Start Inv-loop μ-loop
+  start = l .before .before .before .before .before .before .before
+
+  abbrev first : tie.After-put-part Inv-loop μ-loop
+  first = l .before .before .before
+
+  listed : (l .loop .next < start .args .side → ¬ (l .loop .bytes + 21 * (start .args .side * start .args .side + 1) ≤ length (l .loop .text))) →
+      ListsPlanes (start .args .side) (now (start .args .cube)) (start .args .z) (now (start .args .text)) (l .loop .text)
+      (record { next = l .loop .next; bytes = l .loop .bytes })
+  listed = no-more (start .args .side) (now (start .args .cube)) (start .args .z) (l .loop .inv) (first .put-part .ensures)
 
 same-length : tie.Need-same-length Inv-loop μ-loop
 same-length c = let size = c .before .before .loop .inv .size in search needs
 
 returns : tie.Need-returns Inv-loop μ-loop
-returns c =
-    let l = c .before .before in rw (l .before .before .before .put-part .kept .1 .1 .1 .1 .0) at (l .loop .inv)
+returns c = listed (c .before .before) (λ l room. omega (arith, room, leb-false))
 
 same-length-2 : tie.Need-same-length-2 Inv-loop μ-loop
 same-length-2 c = let size = c .before .loop .inv .size in search needs
 
 returns-2 : tie.Need-returns-2 Inv-loop μ-loop
-returns-2 c =
-    let l = c .before in rw (l .before .before .before .put-part .kept .1 .1 .1 .1 .0) at (l .loop .inv)
+returns-2 c = listed (c .before) (λ l room. omega arith)
 
 pub list-planes-spec : {M : Type 1} → statement M
 list-planes-spec =

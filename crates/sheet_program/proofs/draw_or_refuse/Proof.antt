@@ -1,16 +1,18 @@
 -- `draw_or_refuse` meets its contract: with 64000 bytes lent the lines alone decide, and a text of 18 bytes holds the
 -- refusal line.
 use borrow.Author.Needs.{needs}
-use borrow.Author.Tests.{le-ltb}
 use mathlib.Core.Path.{_≡_, sym, _∙_, ap}
 use mathlib.Core.List.{List}
 use Prim.Native.Nat.{ℕ, _≤_}
+use native.Mathlib.Omega.{arith}
 use lib.ListN.{length}
-use Rattle.decide.specs.Refusal.{accepted, firstThat}
+use Rattle.decide.specs.Refusal.{firstThat}
 use Rattle.sheet.specs.Sheet.{judge}
 use Rattle.sheet.specs.Printed.{refusalLine}
 use Rattle.sheet.specs.Call.{Said, drew, refused, said, bufferAfter}
 use Rattle.sheet.specs.Part.{lineOrder}
+use Rattle.sheet.proofs.Sheet.{bad-small}
+use Rattle.sheet.proofs.Refused.{line-accepted}
 use Rattle.sheet_cube.specs.declared.Answer.{Answer}
 use Rattle.sheet_cube.specs.Answer.{saidOf, DrawsSheet}
 use Rattle.sheet_cube.proofs.Drawing.{is-good}
@@ -38,12 +40,12 @@ module _ {input buffer bufferNow : List ℕ} {a : Answer} (d : DrawsSheet input 
 
   -- or it is refused, and the line is written.
   refuses : {n k : ℕ} → saidOf a ≡ refused n k → {text after : List ℕ} {w : Written} → 18 ≤ length text →
-      written.Writes (firstThat (lineOrder (length text))) (refusalLine n k) text after w →
+      written.Writes (firstThat (lineOrder n k (length text))) (refusalLine n k) text after w →
       DrawsOrRefuses input buffer bufferNow text after (Line 18)
-  unfolding firstThat lineOrder
   refuses {n} {k} e {text} room w =
       let j = sym (is-bad (judge input) (judged e)) in
-      let v : firstThat (lineOrder (length text)) ≡ accepted = simp (le-ltb (length text) 18 room) in
+      let small = bad-small input (sym j) in
+      let v = line-accepted n k (length text) (omega (arith, small .0)) (omega (arith, small .1)) room in
       record {
         answer = ap drawingOf j;
         leaves = leaves;

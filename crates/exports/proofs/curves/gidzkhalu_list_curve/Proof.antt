@@ -1,7 +1,7 @@
 -- `gidzkhalu_list_curve` meets its contract: the record's length is judged, then the call.
 use borrow.Author.Needs.{needs}
 use native.Mathlib.Omega.{arith}
-use Rattle.exports.proofs.Small.{small-read}
+use Rattle.exports.proofs.Small.{reads}
 use Rattle.exports.proofs.Calls.{wrong-record, right-record}
 use Rattle.exports.proofs.curves.gidzkhalu_list_curve.Statement.{statement}
 use Rattle.exports.proofs.curves.gidzkhalu_list_curve.Tie as tie
@@ -11,7 +11,7 @@ refused-requires c κs = search needs
 
 returns : tie.Need-returns
 returns c =
-    wrong-record 12 _ _ _ _ _ (c .before .if1 .taken) (small-read (c .refused .ensures .0) (c .refused .ensures .1) .0)
+    wrong-record 12 _ _ _ _ _ (c .before .if1 .taken) (reads (c .refused .ensures))
 
 curve-of-requires : tie.Need-curve-of-requires
 curve-of-requires c κs = search needs
@@ -32,7 +32,7 @@ returns-2 c =
     let e = m .before in
     let d = rw (m .curve-of .ensures) at (k .list-curve .ensures) in
     right-record 12 _ _ _ _ _ (k .list-curve .result) (omega (arith, e .if1 .left)) (d .answer) (d .leaves)
-    (small-read (c .of-answer .ensures .0) (c .of-answer .ensures .1) .0)
+    (reads (c .of-answer .ensures))
 
 pub gidzkhalu-list-curve-spec : {M : Type 1} → statement M
 gidzkhalu-list-curve-spec =

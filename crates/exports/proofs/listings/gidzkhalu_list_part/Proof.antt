@@ -1,6 +1,6 @@
 -- `gidzkhalu_list_part` meets its contract: the call, with its number signed.
 use borrow.Author.Needs.{needs}
-use Rattle.exports.proofs.Small.{small-read}
+use Rattle.exports.proofs.Small.{reads}
 use Rattle.exports.proofs.Text.{part-small, small-written, written-signed}
 use Rattle.exports.proofs.listings.gidzkhalu_list_part.Statement.{statement}
 use Rattle.exports.proofs.listings.gidzkhalu_list_part.Tie as tie
@@ -19,7 +19,7 @@ same-length c = search needs
 
 returns : tie.Need-returns
 returns c =
-    written-signed (c .before .before .before .list-part .ensures) (small-read (c .of-written .ensures .0) (c .of-written .ensures .1) .0)
+    written-signed (c .before .before .before .list-part .ensures) (reads (c .of-written .ensures))
 
 pub gidzkhalu-list-part-spec : {M : Type 1} → statement M
 gidzkhalu-list-part-spec =

@@ -2,7 +2,7 @@
 use borrow.Author.Needs.{needs}
 use native.Mathlib.Omega.{arith}
 use Rattle.sheet.proofs.Printed.{length-refusalLine}
-use Rattle.exports.proofs.Small.{small-read}
+use Rattle.exports.proofs.Small.{reads}
 use Rattle.exports.proofs.Text.{small-written, written-signed}
 use Rattle.exports.proofs.listings.gidzkhalu_refusal_line.Statement.{statement}
 use Rattle.exports.proofs.listings.gidzkhalu_refusal_line.Tie as tie
@@ -21,7 +21,7 @@ same-length c = search needs
 
 returns : tie.Need-returns
 returns c =
-    written-signed (c .before .before .before .refusal-line .ensures) (small-read (c .of-written .ensures .0) (c .of-written .ensures .1) .0)
+    written-signed (c .before .before .before .refusal-line .ensures) (reads (c .of-written .ensures))
 
 pub gidzkhalu-refusal-line-spec : {M : Type 1} → statement M
 gidzkhalu-refusal-line-spec =

@@ -1,6 +1,6 @@
 -- `gidzkhalu_totals` meets its contract: the call, with its number signed.
 use borrow.Author.Needs.{needs}
-use Rattle.exports.proofs.Small.{small-read}
+use Rattle.exports.proofs.Small.{reads}
 use Rattle.exports.proofs.Text.{totals-small, small-written, written-signed}
 use Rattle.exports.proofs.listings.gidzkhalu_totals.Statement.{statement}
 use Rattle.exports.proofs.listings.gidzkhalu_totals.Tie as tie
@@ -18,7 +18,7 @@ same-length c = search needs
 
 returns : tie.Need-returns
 returns c =
-    written-signed (c .before .before .before .write-totals .ensures) (small-read (c .of-written .ensures .0) (c .of-written .ensures .1) .0)
+    written-signed (c .before .before .before .write-totals .ensures) (reads (c .of-written .ensures))
 
 pub gidzkhalu-totals-spec : {M : Type 1} → statement M
 gidzkhalu-totals-spec =

@@ -1,12 +1,9 @@
 -- `gidzkhalu_check_patch` meets its contract: the record's length is judged, then the call.
 use borrow.Author.Needs.{needs}
-use mathlib.Core.Path.{sym, _∙_, ap}
 use native.Mathlib.Omega.{arith}
 use Rattle.drawing.specs.Object.{patch}
-use Rattle.drawing.specs.Refusals.{checkVerdict}
-use Rattle.exports.specs.Signed.{signed}
-use Rattle.exports.proofs.Small.{small-read}
-use Rattle.exports.proofs.Calls.{wrong-length, right-length}
+use Rattle.exports.proofs.Small.{reads}
+use Rattle.exports.proofs.Calls.{wrong-check, right-check}
 use Rattle.exports.proofs.patches.gidzkhalu_check_patch.Statement.{statement}
 use Rattle.exports.proofs.patches.gidzkhalu_check_patch.Tie as tie
 
@@ -16,8 +13,7 @@ refused-requires c κs = search needs
 returns : tie.Need-returns
 returns c =
     let s = c .before .before .before in
-    small-read (c .refused .ensures .0) (c .refused .ensures .1) .0 ∙
-    ap (λ v. signed v 0) (sym (wrong-length 48 (s .args .points .now) (checkVerdict (s .args .side) (patch (s .args .n) (s .args .m) (s .args .points .now) 0)) (c .before .if1 .taken)))
+    wrong-check 48 (s .args .side) (patch (s .args .n) (s .args .m) (s .args .points .now) 0) (c .before .if1 .taken) (reads (c .refused .ensures))
 
 patch-of-requires : tie.Need-patch-of-requires
 patch-of-requires c κs = search needs
@@ -33,9 +29,8 @@ returns-2 c =
     let k = c .before in
     let e = k .before .before in
     let s = e .before .before in
-    let same = ap (checkVerdict (s .args .side)) (k .before .patch-of .ensures) in
-    small-read (c .of-verdict .ensures .0) (c .of-verdict .ensures .1) .0 ∙ ap (λ v. signed v 0) (k .check-patch .ensures ∙ same) ∙
-    ap (λ v. signed v 0) (sym (right-length 48 (s .args .points .now) (checkVerdict (s .args .side) (patch (s .args .n) (s .args .m) (s .args .points .now) 0)) (omega (arith, e .if1 .left))))
+    right-check 48 (s .args .side) (patch (s .args .n) (s .args .m) (s .args .points .now) 0) _ (omega (arith, e .if1 .left))
+    (k .before .patch-of .ensures) (k .check-patch .ensures) (reads (c .of-verdict .ensures))
 
 pub gidzkhalu-check-patch-spec : {M : Type 1} → statement M
 gidzkhalu-check-patch-spec =

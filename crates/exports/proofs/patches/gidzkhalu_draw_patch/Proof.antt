@@ -1,7 +1,7 @@
 -- `gidzkhalu_draw_patch` meets its contract: the record's length is judged, then the call.
 use borrow.Author.Needs.{needs}
 use native.Mathlib.Omega.{arith}
-use Rattle.exports.proofs.Small.{small-read}
+use Rattle.exports.proofs.Small.{reads}
 use Rattle.exports.proofs.Calls.{wrong-record, right-record}
 use Rattle.exports.proofs.patches.gidzkhalu_draw_patch.Statement.{statement}
 use Rattle.exports.proofs.patches.gidzkhalu_draw_patch.Tie as tie
@@ -11,7 +11,7 @@ refused-requires c κs = search needs
 
 returns : tie.Need-returns
 returns c =
-    wrong-record 48 _ _ _ _ _ (c .before .if1 .taken) (small-read (c .refused .ensures .0) (c .refused .ensures .1) .0)
+    wrong-record 48 _ _ _ _ _ (c .before .if1 .taken) (reads (c .refused .ensures))
 
 patch-of-requires : tie.Need-patch-of-requires
 patch-of-requires c κs = search needs
@@ -32,7 +32,7 @@ returns-2 c =
     let e = m .before in
     let d = rw (m .patch-of .ensures) at (k .draw-patch .ensures) in
     right-record 48 _ _ _ _ _ (k .draw-patch .result) (omega (arith, e .if1 .left)) (d .answer) (d .leaves)
-    (small-read (c .of-answer .ensures .0) (c .of-answer .ensures .1) .0)
+    (reads (c .of-answer .ensures))
 
 pub gidzkhalu-draw-patch-spec : {M : Type 1} → statement M
 gidzkhalu-draw-patch-spec =

@@ -5,7 +5,7 @@ use native.Mathlib.Omega.{arith}
 use lib.ListN.{length}
 use Rattle.sheet_cube.specs.Answer.{saidOf}
 use Rattle.sheet_cube.proofs.Called.{side-most, line-most}
-use Rattle.exports.proofs.Small.{small-read}
+use Rattle.exports.proofs.Small.{reads}
 use Rattle.exports.proofs.OneByte.{other-length, one-byte-call}
 use Rattle.exports.proofs.sheets.gidzkhalu_draw_sheet.Statement.{statement}
 use Rattle.exports.proofs.sheets.gidzkhalu_draw_sheet.Tie as tie
@@ -14,7 +14,7 @@ refused-requires : tie.Need-refused-requires
 refused-requires c κs = search needs
 
 returns : tie.Need-returns
-returns c = other-length (λ e. omega (arith, e, c .before .if1 .taken)) (small-read (c .refused .ensures .0) (c .refused .ensures .1) .0)
+returns c = other-length (λ e. omega (arith, e, c .before .if1 .taken)) (reads (c .refused .ensures))
 
 draw-sheet-requires : tie.Need-draw-sheet-requires
 draw-sheet-requires c κs = search needs
@@ -58,7 +58,7 @@ returns-2 c =
     let k = c .before .before in
     let d = k .before .before .before .before .before in
     one-byte-call (one d) (d .draw-sheet .ensures) (ap saidOf (k .before .size .given .1))
-    (small-read (c .accepted .ensures .0) (c .accepted .ensures .1) .0) (c .before .byte .ensures)
+    (reads (c .accepted .ensures)) (c .before .byte .ensures)
 
 same-length-3 : tie.Need-same-length-3
 same-length-3 c = search needs
@@ -71,7 +71,7 @@ returns-3 c =
     let k = c .before .before in
     let d = k .before .before .before .before .before in
     one-byte-call (one d) (d .draw-sheet .ensures) (ap saidOf (k .before .refusal .given .1))
-    (small-read (c .refused2 .ensures .0) (c .refused2 .ensures .1) .0) (c .before .byte2 .ensures)
+    (reads (c .refused2 .ensures)) (c .before .byte2 .ensures)
 
 pub gidzkhalu-draw-sheet-spec : {M : Type 1} → statement M
 gidzkhalu-draw-sheet-spec =

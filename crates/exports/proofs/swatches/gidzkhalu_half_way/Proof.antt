@@ -10,7 +10,7 @@ use Rattle.decide.proofs.Refusal.{first-applies}
 use Rattle.swatch.specs.declared.Swatch.{Swatch}
 use Rattle.swatch.specs.HalfWay.{AcceptedHalfWay, HalfWaySays, halfWayRefusals}
 use Rattle.exports.specs.Swatches.{swatchOf, noKind, mixOrder}
-use Rattle.exports.proofs.Small.{small-read}
+use Rattle.exports.proofs.Small.{reads}
 use Rattle.exports.proofs.Cells.{
   twelve-bytes,
   no-nan,
@@ -28,7 +28,7 @@ refused-requires c κs = search needs
 returns : tie.Need-returns
 returns c =
     fills-refused 53 (first-applies 53 _ _ (rw (lt-ltb 2 _ (c .before .if1 .taken))))
-    (small-read (c .refused .ensures .0) (c .refused .ensures .1) .0)
+    (reads (c .refused .ensures))
 
 refused-requires-2 : tie.Need-refused-requires-2
 refused-requires-2 c κs = search needs
@@ -37,7 +37,7 @@ returns-2 : tie.Need-returns-2
 returns-2 c =
     let e = c .before in
     fills-refused 53 (first-applies 53 _ _ (rw (le-ltb 2 _ (e .before .if1 .left), lt-ltb 2 _ (e .if2 .taken))))
-    (small-read (c .refused2 .ensures .0) (c .refused2 .ensures .1) .0)
+    (reads (c .refused2 .ensures))
 
 refused-requires-3 : tie.Need-refused-requires-3
 refused-requires-3 c κs = search needs
@@ -50,7 +50,7 @@ returns-3 c =
     (other-length 12 (s .channels .now) (noKind (s .kind) || noKind (s .kind2)) _
     (rw (le-ltb 2 (s .kind) (e .before .before .if1 .left), le-ltb 2 (s .kind2) (e .before .if2 .left)))
     (λ t. omega (arith, t, e .if3 .taken)))
-    (small-read (c .refused3 .ensures .0) (c .refused3 .ensures .1) .0)
+    (reads (c .refused3 .ensures))
 
 swatch-of-requires : tie.Need-swatch-of-requires
 swatch-of-requires c κs = search needs
@@ -122,7 +122,7 @@ returns-4 c =
     let k = c .before .before in
     let t = k .before .before in
     let e = subst (HalfWaySays (first t) (second t)) (k .number .given .1) (says t) in
-    fills-refused (k .number .given .0 .0) (own t ∙ e) (small-read (c .refused4 .ensures .0) (c .refused4 .ensures .1) .0)
+    fills-refused (k .number .given .0 .0) (own t ∙ e) (reads (c .refused4 .ensures))
 
 same-length : tie.Need-same-length
 same-length c = search needs

@@ -9,7 +9,7 @@ use Rattle.decide.proofs.Refusal.{first-applies}
 use Rattle.swatch.specs.declared.Swatch.{Swatch}
 use Rattle.swatch.specs.ToCell.{CellSays, cellRefusals}
 use Rattle.exports.specs.Swatches.{swatchOf, cellOrder}
-use Rattle.exports.proofs.Small.{small-read}
+use Rattle.exports.proofs.Small.{reads}
 use Rattle.exports.proofs.Cells.{three-bytes, fills-refused, fills-accepted, other-length, own-numbers}
 use Rattle.exports.proofs.swatches.gidzkhalu_to_cell.Statement.{statement}
 use Rattle.exports.proofs.swatches.gidzkhalu_to_cell.Tie as tie
@@ -20,7 +20,7 @@ refused-requires c κs = search needs
 returns : tie.Need-returns
 returns c =
     fills-refused 53 (first-applies 53 _ _ (lt-ltb 2 _ (c .before .if1 .taken)))
-    (small-read (c .refused .ensures .0) (c .refused .ensures .1) .0)
+    (reads (c .refused .ensures))
 
 refused-requires-2 : tie.Need-refused-requires-2
 refused-requires-2 c κs = search needs
@@ -29,7 +29,7 @@ returns-2 : tie.Need-returns-2
 returns-2 c =
     let e = c .before in
     fills-refused 52 (other-length 3 (e .before .before .before .args .cell .now) _ _ (le-ltb 2 _ (e .before .if1 .left)) (λ t. omega (arith, t, e .if2 .taken)))
-    (small-read (c .refused2 .ensures .0) (c .refused2 .ensures .1) .0)
+    (reads (c .refused2 .ensures))
 
 swatch-of-requires : tie.Need-swatch-of-requires
 swatch-of-requires c κs = search needs
@@ -78,7 +78,7 @@ returns-3 c =
     let k = c .before .before in
     let t = k .before .before in
     let e = subst (CellSays (start t .args .side) (swatch t)) (k .number .given .1) (says t) in
-    fills-refused (k .number .given .0 .0) (own t ∙ e) (small-read (c .refused3 .ensures .0) (c .refused3 .ensures .1) .0)
+    fills-refused (k .number .given .0 .0) (own t ∙ e) (reads (c .refused3 .ensures))
 
 same-length : tie.Need-same-length
 same-length c = search needs

@@ -8,6 +8,7 @@ use native.Mathlib.Numerals.{add-one}
 use lib.ListN.{length, take, drop}
 use Rattle.curve.specs.Curve.{curveOf}
 use Rattle.sheet.specs.Sheet.{strokeOf, objectOf}
+use Rattle.sheet_lines.proofs.Fits.{read-curve}
 use Rattle.sheet_cube.proofs.Judged.{Passes, passes-fits, passes-draws}
 use Rattle.sheet_cube.proofs.Drawing.{GoodSheet, good-sheet, DrawnSoFar, none-drawn, all-drawn, line, one-more}
 use Rattle.sheet_cube.proofs.Drawing.{whole-buffer, line-passes, line-there, line-ends}
@@ -98,8 +99,7 @@ module _ (c : tie.After-read-curve Inv-loop μ-loop) where
 
   is-curve : curveOf (c .read-curve .result .curve) ≡ objectOf (strokeOf (line (sheet (start l)) (to-come l) (so-far l)))
   is-curve =
-      let r = rw (text l) at (c .read-curve .ensures) in
-      r .1 (r .0 ∙ passes-fits passing (sheet (start l) .side-most))
+      read-curve _ (rw (text l) at (c .read-curve .ensures)) (passes-fits passing (sheet (start l) .side-most))
 
 mark-samples-requires : tie.Need-mark-samples-requires Inv-loop μ-loop
 mark-samples-requires c κs =

@@ -9,6 +9,7 @@ use Rattle.drawing.specs.Refusals.{checkVerdict}
 use Rattle.sheet.proofs.Sheet.{too-many-lines}
 use Rattle.sheet_lines.specs.Read.{firstLine}
 use Rattle.sheet_cube.proofs.Verdicts.{WholeLine, is-wrong, is-whole, curve-wrong, side-there}
+use Rattle.sheet_lines.proofs.Fits.{read-fits, read-curve}
 use Rattle.sheet_lines.proofs.Order.{fit-judged, unfit-refused}
 use Rattle.sheet_cube.proofs.judge.judge_curve.Statement.{statement}
 use Rattle.sheet_cube.proofs.judge.judge_curve.Tie as tie
@@ -58,8 +59,9 @@ returns-3 c =
     let s = e .before in
     let w = first e in
     let r = rw (w .taken) at (t .before .read-curve .ensures) in
-    c .check-curve .ensures ∙ ap (checkVerdict (start s .args .side)) (r .1 (t .if3 .taken)) ∙
-    sym (fit-judged (start s .args .side) _ _ (few s) (w .right) (sym (r .0) ∙ t .if3 .taken))
+    let f = sym (read-fits _ r) ∙ t .if3 .taken in
+    c .check-curve .ensures ∙ ap (checkVerdict (start s .args .side)) (read-curve _ r f) ∙
+    sym (fit-judged (start s .args .side) _ _ (few s) (w .right) f)
 
 returns-4 : tie.Need-returns-4
 returns-4 c =
@@ -67,9 +69,10 @@ returns-4 c =
     let e = t .before .before .before in
     let s = e .before in
     let w = first e in
-    let r = rw (w .taken) at (t .before .read-curve .ensures .0) in
+    let r = rw (w .taken) at (t .before .read-curve .ensures) in
     ap refused (rw (w .taken) at (c .refusal-of .ensures)) ∙
-    sym (unfit-refused (start s .args .side) _ _ (few s) (w .right) (side-there (start s .pre .0) (start s .pre .1)) (sym r ∙ t .if3 .left))
+    sym (unfit-refused (start s .args .side) _ _ (few s) (w .right) (side-there (start s .pre .0) (start s .pre .1))
+    (sym (read-fits _ r) ∙ t .if3 .left))
 
 pub judge-curve-spec : {M : Type 1} → statement M
 judge-curve-spec =

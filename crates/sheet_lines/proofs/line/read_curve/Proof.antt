@@ -2,7 +2,7 @@
 use borrow.Author.Needs.{needs}
 use borrow.Author.Count.{below-none, below-more}
 use mathlib.Core.Path.{_≡_, refl, sym, _∙_, ap}
-use mathlib.Core.Bool.{true, false, true≢false, false≢true}
+use mathlib.Core.Bool.{true≢false}
 use mathlib.Core.List.{List}
 use Prim.Native.Nat.{ℕ, _+_, _-_, _≤_, _<_}
 use native.Mathlib.Omega.{arith}
@@ -10,12 +10,10 @@ use denote.Ref.{now}
 use lib.ListN.{length, getD, length-set}
 use lib.Seq.{getD-set-same, getD-set-other}
 use Rattle.sheet.specs.Line.{field}
-use Rattle.curve.specs.Curve.{curveOf}
-use Rattle.sheet.specs.Sheet.{markOut, strokeOf, objectOf}
-use Rattle.sheet_lines.specs.declared.line.Read.{Read}
-use Rattle.sheet_lines.specs.Read.{readField, fits}
+use Rattle.sheet.specs.Sheet.{markOut}
+use Rattle.sheet_lines.specs.Read.{readField}
 use Rattle.sheet_lines.proofs.Fields.{read-most}
-use Rattle.sheet_lines.proofs.Fits.{mark-in, Fitting, fits-reads, unfits, curve-read}
+use Rattle.sheet_lines.proofs.Fits.{mark-in, Fitting, fits-reads, fit-line, unfit-line}
 use Rattle.sheet_lines.proofs.line.read_curve.Statement.{statement}
 use Rattle.sheet_lines.proofs.line.read_curve.Tie as tie
 
@@ -27,11 +25,6 @@ Inv-loop line mark steps points₀ k₀ points k =
 
 abbrev μ-loop : tie.MeasureT-loop
 μ-loop line mark steps points₀ k₀ points k = 12 - k
-
--- What is answered for a line that does not fit.
-answered : (r : Read) (line : List ℕ) → r .fits ≡ false → (Fitting line → ⊥) →
-    (r .fits ≡ fits line) × (r .fits ≡ true → curveOf (r .curve) ≡ objectOf (strokeOf line))
-answered r line e none = (e ∙ sym (unfits line none), λ t. absurd (false≢true (sym e ∙ t)))
 
 -- The mark is tested as it is read.
 module _ (c : tie.After-is-mark-out Inv-loop μ-loop) where
@@ -52,7 +45,7 @@ unfit-requires c κs = search needs
 
 returns : tie.Need-returns Inv-loop μ-loop
 returns c =
-    answered (c .unfit .result) _ (c .unfit .ensures)
+    c .unfit .ensures ∙ unfit-line _
     (λ f. true≢false (sym (c .before .if1 .taken) ∙ tested (c .before .before) ∙ f .mark))
 
 number-at-requires-2 : tie.Need-number-at-requires-2 Inv-loop μ-loop
@@ -63,7 +56,7 @@ unfit-requires-2 c κs = search needs
 
 returns-2 : tie.Need-returns-2 Inv-loop μ-loop
 returns-2 c =
-    answered (c .unfit2 .result) _ (c .unfit2 .ensures)
+    c .unfit2 .ensures ∙ unfit-line _
     (λ f. omega (arith, f .steps, c .before .before .number-at2 .ensures))
 
 loop-holds : tie.Need-loop-holds Inv-loop μ-loop
@@ -81,7 +74,7 @@ unfit-requires-3 c κs = search needs
 returns-3 : tie.Need-returns-3 Inv-loop μ-loop
 returns-3 c =
     let l = c .before .before .before .before .loop in
-    answered (c .unfit3 .result) _ (c .unfit3 .ensures)
+    c .unfit3 .ensures ∙ unfit-line _
     (λ f. omega (arith, f .bytes (l .k) (omega arith), c .before .before .number-at3 .ensures))
 
 cast-points : tie.Need-cast-points Inv-loop μ-loop
@@ -124,12 +117,8 @@ returns-4 c =
       steps = omega (arith, n .number-at2 .ensures, read-most (field line 1));
       bytes = λ k h. l .inv .2 k (omega arith) .0;
     } in
-    let e = fits-reads line .1 f in (
-      sym e,
-      λ _.
-          curve-read line (l .points) (n .number-at2 .result) (m .before .number-at .result) e (m .before .number-at .ensures)
-          (n .number-at2 .ensures) (l .inv .1) (λ k h. l .inv .2 k (omega arith) .1),
-    )
+    fit-line line (l .points) (n .number-at2 .result) (m .before .number-at .result) (fits-reads line .1 f)
+    (m .before .number-at .ensures) (n .number-at2 .ensures) (l .inv .1) (λ k h. l .inv .2 k (omega arith) .1)
 
 pub read-curve-spec : {M : Type 1} → statement M
 read-curve-spec =
