@@ -2,17 +2,13 @@
 use mathlib.Core.Path.{_≡_, refl, sym, _∙_, ap}
 use mathlib.Core.List.{List}
 use Prim.Native.Nat.{ℕ}
-use lib.IntN.{ℤ, pos}
+use lib.IntN.{ℤ}
 use lib.ListN.{length}
 use borrow.Author.Tests.{ne-eqb, eq-eqb}
-use Rattle.decide.specs.Refusal.{Verdict, refused, firstThat}
+use Rattle.decide.specs.Refusal.{Verdict, refused, Outcome, outcome, firstThat}
 use Rattle.drawing.specs.Object.{Object}
 use Rattle.drawing.specs.Refusals.{checkVerdict}
-use Rattle.scan.specs.declared.answer.Answer.{Answer}
-use Rattle.scan.specs.declared.answer.Answer.the-variants as answer
-use Rattle.scan.specs.Answer.{Says}
-use Rattle.exports.specs.Signed.{minus, signed, ofLength}
-use Rattle.exports.specs.Answer.{numberOf}
+use Rattle.exports.specs.Signed.{minus, signedOf, signed, ofLength}
 use Rattle.exports.specs.Records.{Calls, ChecksBytes}
 
 -- A record of its length leaves it to the call, and one of another length is refused.
@@ -42,11 +38,6 @@ module _ (size S : ℕ) (o : Object) {r : ℤ} where
   right-check p h same found e =
       right-answer size (o .points) (checkVerdict S o) 0 h (e ∙ ap (λ u. signed u 0) (found ∙ ap (checkVerdict S) same))
 
--- The number of an answer.
-pub says-number : (v : Verdict) (n : ℕ) (a : Answer) → Says v n a → numberOf a ≡ signed v n
-says-number v n (answer.Samples k) s = ap pos (s .1) ∙ ap (λ u. signed u n) (sym (s .0))
-says-number v n (answer.Refused k) s = ap (λ u. signed u n) (sym s)
-
 module _ (size : ℕ) (bytes : List ℕ) (v : Verdict) (n : ℕ) (left before : List ℕ) where
   pub wrong-record : {r : ℤ} → (length bytes ≡ size → ⊥) → r ≡ minus 51 → Calls size bytes v n left before before r
   wrong-record w e = record {
@@ -54,9 +45,9 @@ module _ (size : ℕ) (bytes : List ℕ) (v : Verdict) (n : ℕ) (left before : 
     leaves = rw (ne-eqb (length bytes) size w) refl;
   }
 
-  pub right-record : (a : Answer) {after : List ℕ} {r : ℤ} → length bytes ≡ size → Says v n a → after ≡ left → r ≡ numberOf a →
-      Calls size bytes v n left before after r
-  right-record a h s l e = record {
-    answer = right-answer size bytes v n h (e ∙ says-number v n a s);
+  pub right-record : {a : Outcome ℕ} {after : List ℕ} {r : ℤ} → length bytes ≡ size → a ≡ outcome v n → after ≡ left →
+      r ≡ signedOf a → Calls size bytes v n left before after r
+  right-record h s l e = record {
+    answer = right-answer size bytes v n h (e ∙ ap signedOf s);
     leaves = l ∙ rw (eq-eqb (length bytes) size h) refl;
   }

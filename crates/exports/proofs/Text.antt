@@ -1,22 +1,22 @@
 -- What is written into a text is few bytes, and its count a signed answer.
-use mathlib.Core.Path.{_≡_, sym, _∙_, ap}
+use mathlib.Core.Path.{_≡_, refl, _∙_, ap}
 use mathlib.Core.List.{List}
 use Prim.Native.Nat.{ℕ, _^_, _<_}
 use native.Mathlib.Nat.{mul-le-mul}
 use native.Mathlib.Omega.{arith}
-use lib.IntN.{ℤ, pos}
+use lib.IntN.{ℤ}
 use lib.ListN.{length, take, drop, length-append, length-take, length-drop}
-use Rattle.decide.specs.Refusal.{Verdict, accepted, firstThat}
+use Rattle.decide.specs.Refusal.{Verdict, accepted, refused, outcome, firstThat}
 use Rattle.sheet.specs.Part.{part, partOrder}
 use Rattle.sheet.proofs.Parts.{length-head-at-most, length-cells-at-most}
 use Rattle.sheet_text.specs.declared.Written.{Written}
 use Rattle.sheet_text.specs.declared.Written.the-variants.{Bytes, Refused}
-use Rattle.sheet_text.specs.Writes.{Says, Writes}
+use Rattle.sheet_text.specs.Writes.{writtenOf, Writes}
 use Rattle.sheet_text.proofs.Refusals.{passes}
 use Rattle.totals.specs.Totals.{totals}
 use Rattle.totals.proofs.Lines.{length-totals-at-most}
-use Rattle.exports.specs.Signed.{signed}
-use Rattle.exports.specs.Text.{SmallWritten, numberOfWritten, WritesSigned}
+use Rattle.exports.specs.Signed.{signedOf}
+use Rattle.exports.specs.Text.{SmallWritten, WritesSigned}
 
 -- A part of a cube has at most 21 bytes for each of 262144 cells, and the heading.
 pub part-small : (S p count textLength : ℕ) (cube : List ℕ) →
@@ -41,15 +41,12 @@ pub totals-small : (S : ℕ) (cube : List ℕ) → length (totals S cube) < 2 ^ 
 totals-small S cube = omega (arith, length-totals-at-most S cube)
 
 -- So what a call answers is small,
-pub small-written : (v : Verdict) (n : ℕ) (r : Written) → Says v n r → (v ≡ accepted → n < 2 ^ 32) → SmallWritten r
-small-written v n (Bytes k) s h = let l = h (s .0) in omega (arith, l, s .1)
-small-written v n (Refused k) s h = tt
+pub small-written : (v : Verdict) (n : ℕ) (r : Written) → writtenOf r ≡ outcome v n → (v ≡ accepted → n < 2 ^ 32) → SmallWritten r
+small-written accepted n (Bytes k) e h = let l = h refl in let same : k ≡ n = cc in omega arith
+small-written (refused j) n (Bytes k) e h = let z : _≡_ {A = ℕ} 0 1 = cc in absurd (omega arith)
+small-written v n (Refused k) e h = tt
 
 -- and its number a signed answer.
 pub written-signed : {v : Verdict} {bytes text after : List ℕ} {w : Written} {r : ℤ} → Writes v bytes text after w →
-    r ≡ numberOfWritten w → WritesSigned v bytes text after r
-written-signed {v} {bytes} {w = w} d e = record { answer = e ∙ number v (length bytes) w (d .answer); leaves = d .leaves }
-  where
-    number : (v : Verdict) (n : ℕ) (w : Written) → Says v n w → numberOfWritten w ≡ signed v n
-    number v n (Bytes k) s = ap pos (s .1) ∙ ap (λ u. signed u n) (sym (s .0))
-    number v n (Refused k) s = ap (λ u. signed u n) (sym s)
+    r ≡ signedOf (writtenOf w) → WritesSigned v bytes text after r
+written-signed d e = record { answer = e ∙ ap signedOf (d .answer); leaves = d .leaves }

@@ -1,8 +1,6 @@
--- `Signed`: what a C caller is answered. `Answer`: the signed number of a drawing's or a listing's answer. `Records`:
--- calls with a record that C passes as bytes. `Sheet`: a sheet call. `Text`: calls that write
--- text. `Swatches`: swatch calls.
+-- `Signed`: what a C caller is answered. `Records`: calls with a record that C passes as bytes. `Sheet`: a sheet call.
+-- `Text`: calls that write text. `Swatches`: swatch calls.
 pub mod Signed
-pub mod Answer
 pub mod Records
 pub mod Sheet
 pub mod Text

@@ -5,15 +5,20 @@ use Prim.Native.Nat.{ℕ}
 use lib.Dec.{eqb}
 use lib.IntN.{ℤ, pos, _-ℤ_}
 use lib.ListN.{length}
-use Rattle.decide.specs.Refusal.{Verdict, _when_, accepted, refused, firstThat, orElse}
+use Rattle.decide.specs.Refusal.{Verdict, Outcome, gives, refuses, outcome, _when_, firstThat, orElse}
 
 -- Minus the number.
 abbrev pub minus : (number : ℕ) → ℤ
 minus k = pos 0 -ℤ pos k
 
+-- A count, or minus the number that refuses the call.
+abbrev pub signedOf : Outcome ℕ → ℤ
+signedOf (gives n) = pos n
+signedOf (refuses k) = minus k
+
+-- The same by the call's verdict.
 abbrev pub signed : Verdict → (count : ℕ) → ℤ
-signed accepted n = pos n
-signed (refused k) n = minus k
+signed v n = signedOf (outcome v n)
 
 -- A record or an out-buffer of another length than it should have.
 abbrev pub otherLength : (size : ℕ) (bytes : List ℕ) → Bool

@@ -7,9 +7,11 @@ ghost use Rattle.integers.specs.Magnitude.{Within};
 ghost use Rattle.decide.specs.Refusal.{firstThat};
 ghost use Rattle.sheet.specs.Printed.{refusalLine};
 ghost use Rattle.sheet.specs.Part.{part, partOrder, lineOrder};
+ghost use Rattle.sheet_text.specs.Writes.{writtenOf};
 ghost use Rattle.totals.specs.Totals.{totals};
 ghost use Rattle.totals.specs.Call.{totalsOrder};
-ghost use Rattle.exports.specs.Text.{SmallWritten, numberOfWritten, WritesSigned};
+ghost use Rattle.exports.specs.Signed.{signedOf};
+ghost use Rattle.exports.specs.Text.{SmallWritten, WritesSigned};
 use crate::signed::refused;
 use sheet_text::Written;
 
@@ -46,7 +48,7 @@ pub extern "C" fn gidzkhalu_refusal_line(number: u32, line: u32, text: &mut [u8]
 // The number of bytes written, or minus the refusal's number.
 fn of_written(written: Written) -> i64
     requires { ⌜ SmallWritten written ⌝ }
-    ensures { λ r. ⌜ (r ≡ numberOfWritten written) × Within (2 ^ 32) r ⌝ }
+    ensures { λ r. ⌜ (r ≡ signedOf (writtenOf written)) × Within (2 ^ 32) r ⌝ }
 {
     match written {
         Written::Bytes(bytes) => wide(bytes),

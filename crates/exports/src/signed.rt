@@ -4,11 +4,11 @@ ghost use Prim.Native.Nat.{_^_};
 ghost use lib.IntN.{pos};
 ghost use lib.ListN.{length};
 ghost use Rattle.integers.specs.Magnitude.{Within};
-ghost use Rattle.scan.specs.Answer.{verdictOf};
-ghost use Rattle.exports.specs.Signed.{minus, signed};
-ghost use Rattle.exports.specs.Answer.{numberOf};
+ghost use Rattle.decide.specs.Verdict.{verdictOf};
+ghost use Rattle.scan.specs.Answer.{answerOf};
+ghost use Rattle.exports.specs.Signed.{minus, signed, signedOf};
+use decide::Verdict;
 use scan::answer::Answer;
-use scan::answer::Verdict;
 
 // A count.
 pub(crate) fn accepted(count: u32) -> i64
@@ -36,7 +36,7 @@ pub(crate) fn of_verdict(verdict: Verdict) -> i64
 
 // Of a drawing or a listing: the number of samples.
 pub(crate) fn of_answer(answer: Answer) -> i64
-    ensures { λ r. ⌜ (r ≡ numberOf answer) × Within (2 ^ 32) r ⌝ }
+    ensures { λ r. ⌜ (r ≡ signedOf (answerOf answer)) × Within (2 ^ 32) r ⌝ }
 {
     match answer {
         Answer::Samples(count) => accepted(count),

@@ -31,7 +31,7 @@ returns-2 c =
     let m = k .before .before in
     let e = m .before in
     let d = rw (m .curve-of .ensures) at (k .draw-curve .ensures) in
-    right-record 12 _ _ _ _ _ (k .draw-curve .result) (omega (arith, e .if1 .left)) (d .answer) (d .leaves)
+    right-record 12 _ _ _ _ _ (omega (arith, e .if1 .left)) (d .answer) (d .leaves)
     (reads (c .of-answer .ensures))
 
 pub gidzkhalu-draw-curve-spec : {M : Type 1} → statement M

@@ -31,7 +31,7 @@ returns-2 c =
     let m = k .before .before in
     let e = m .before in
     let d = rw (m .patch-of .ensures) at (k .draw-patch .ensures) in
-    right-record 48 _ _ _ _ _ (k .draw-patch .result) (omega (arith, e .if1 .left)) (d .answer) (d .leaves)
+    right-record 48 _ _ _ _ _ (omega (arith, e .if1 .left)) (d .answer) (d .leaves)
     (reads (c .of-answer .ensures))
 
 pub gidzkhalu-draw-patch-spec : {M : Type 1} → statement M

@@ -1,7 +1,8 @@
 -- `of_answer` meets its contract.
 use borrow.Author.Needs.{needs}
 use mathlib.Core.Path.{sym, _∙_, ap}
-use Rattle.exports.specs.Answer.{numberOf}
+use Rattle.scan.specs.Answer.{answerOf}
+use Rattle.exports.specs.Signed.{signedOf}
 use Rattle.exports.proofs.Small.{small-read}
 use Rattle.exports.proofs.signed.of_answer.Statement.{statement}
 use Rattle.exports.proofs.signed.of_answer.Tie as tie
@@ -21,12 +22,12 @@ refused-requires c κs = search needs
 returns : tie.Need-returns
 returns c =
     let k = c .before .before .answer .given in
-    small-read (c .accepted .ensures .0 ∙ sym (ap numberOf (k .1))) (c .accepted .ensures .1)
+    small-read (c .accepted .ensures .0 ∙ sym (ap (λ a. signedOf (answerOf a)) (k .1))) (c .accepted .ensures .1)
 
 returns-2 : tie.Need-returns-2
 returns-2 c =
     let k = c .before .before .answer2 .given in
-    small-read (c .refused .ensures .0 ∙ sym (ap numberOf (k .1))) (c .refused .ensures .1)
+    small-read (c .refused .ensures .0 ∙ sym (ap (λ a. signedOf (answerOf a)) (k .1))) (c .refused .ensures .1)
 
 pub of-answer-spec : {M : Type 1} → statement M
 of-answer-spec =

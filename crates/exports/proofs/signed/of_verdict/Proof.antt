@@ -2,7 +2,7 @@
 use borrow.Author.Needs.{needs}
 use mathlib.Core.Path.{sym, _∙_, ap}
 use lib.Dec.{lit<}
-use Rattle.scan.specs.Answer.{verdictOf}
+use Rattle.decide.specs.Verdict.{verdictOf}
 use Rattle.exports.specs.Signed.{signed}
 use Rattle.exports.proofs.Small.{count-small, small-read}
 use Rattle.exports.proofs.signed.of_verdict.Statement.{statement}
