@@ -105,7 +105,7 @@ int64_t gidzkhalu_check_curve(uint32_t side, const uint8_t *points, size_t point
 
 /* Writes x y z of the cell of samples 0 to steps from the front of the list and leaves the rest: steps + 1.
    Refusals: 51, 11, 13, 22 (the list is shorter than 3 (steps + 1) bytes), 14, 15.
-   Stack: 296 bytes. Instructions: 29214. Environment: any. */
+   Stack: 296 bytes. Instructions: 29215. Environment: any. */
 int64_t gidzkhalu_list_curve(uint32_t side, const uint8_t *points, size_t points_len, uint32_t steps,
                              uint8_t *list, size_t list_len);
 

@@ -41,16 +41,20 @@ static uint8_t grid[CELLS], text[GIDZKHALU_PART_BYTES(CELLS)];
 #define SIZE(table) (sizeof(table) / sizeof *(table))
 
 /* Curves: the most steps at the largest side, so that no step is long and all samples are walked. A sample takes longer
-   where its cell moves, down more than up. FALLS has the most moves down; UP_AND_DOWN, of all curves of one axis, the
-   most where a move down takes twice as much more as a move up, and DOWN_AND_UP nearly so. */
+   where its cell moves, down more than up. Of all curves of one axis FALLS has the most moves down; UP_AND_DOWN and
+   DOWN_AND_UP have the most where a move down takes twice as much more as a move up. */
 enum pattern { FALLS, UP_AND_DOWN, DOWN_AND_UP, RISES, STAYS, PATTERNS };
 
 static const char *const PATTERN[PATTERNS] = {"falls", "up and down", "down and up", "rises", "stays"};
 
 /* The coordinate of point k of four. */
 static uint8_t patterned(enum pattern pattern, int k, uint8_t last) {
-    static const int high[PATTERNS][4] = {{1, 0, 0, 0}, {0, 1, 1, 0}, {1, 0, 0, 1}, {0, 1, 1, 1}, {1, 1, 1, 1}};
-    return high[pattern][k] ? last : pattern == UP_AND_DOWN && k == 0 ? 2 : 0;
+    const uint8_t points[PATTERNS][4] = {{last, 0, 0, 0},
+                                         {2, last, last, 0},
+                                         {last, 0, 0, (uint8_t)(last - 2)},
+                                         {0, last, last, last},
+                                         {last, last, last, last}};
+    return points[pattern][k];
 }
 
 struct axes {
