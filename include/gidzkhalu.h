@@ -52,9 +52,9 @@ enum {
     GIDZKHALU_REFUSED_FIELD = 42,           /* a bad field */
     GIDZKHALU_REFUSED_SHEET_SIDE = 43,      /* a sheet's side of 41 to 64 */
     GIDZKHALU_REFUSED_PAST_LAST_LINE = 44,  /* a byte after the 200th curve line */
-    /* Of this interface alone, tried before all others. */
+    /* Of this interface alone, tried before all others, 51 and 53 before 52. */
     GIDZKHALU_REFUSED_RECORD_LENGTH = 51,   /* a curve's points are not 12 bytes, a patch's not 48 */
-    GIDZKHALU_REFUSED_OUT_LENGTH = 52,      /* an out-buffer of another length than the one it must have */
+    GIDZKHALU_REFUSED_OUT_LENGTH = 52,      /* a cell is not 3 bytes, channels not 12, a detail not 1 */
     GIDZKHALU_REFUSED_KIND = 53,            /* a kind of swatch that does not exist, above 2 */
     /* Of the refusal line, here and in Rattle. */
     GIDZKHALU_REFUSED_NUMBER = 54           /* a number or a line that five columns do not hold, above 99999 */
@@ -94,22 +94,24 @@ enum {
 #define GIDZKHALU_LIST_BYTES(steps) (GIDZKHALU_CELL_BYTES * ((size_t)(steps) + 1))
 #define GIDZKHALU_PART_BYTES(count) (GIDZKHALU_LISTING_LINE_BYTES * ((size_t)(count) + 1))
 
-/* Below, "Refusals" are the numbers that a function can answer, in the order in which they are tried. */
+/* At each function, "Answer" is that of an accepted call, and "Refusals" are the numbers that it can answer minus, in the
+   order in which they are tried. */
 
 /* Curves: points has x y z of points 0 to 3, 12 bytes. A cell (x, y, z) stands at byte x + side y + side side z. */
 
-/* Whether a curve can be drawn: 0 if so.
+/* Whether a curve can be drawn. Answer: 0.
    Refusals: 51, 11, 13, 14, 15.
    Stack: 184 bytes. Instructions: 12512. Environment: any. */
 int64_t gidzkhalu_check_curve(uint32_t side, const uint8_t *points, size_t points_len, uint32_t steps);
 
-/* Writes x y z of the cell of samples 0 to steps from the front of the list and leaves the rest: steps + 1.
+/* Writes x y z of the cell of samples 0 to steps from the front of the list and leaves the rest. Answer:
+   steps + 1.
    Refusals: 51, 11, 13, 22 (the list is shorter than 3 (steps + 1) bytes), 14, 15.
    Stack: 296 bytes. Instructions: 29215. Environment: any. */
 int64_t gidzkhalu_list_curve(uint32_t side, const uint8_t *points, size_t points_len, uint32_t steps,
                              uint8_t *list, size_t list_len);
 
-/* Writes the mark in the cell of each sample: steps + 1.
+/* Writes the mark in the cell of each sample. Answer: steps + 1.
    Refusals: 51, 11, 21, 12, 13, 14, 15.
    Stack: 241 bytes. Instructions: 30076. Environment: any. */
 int64_t gidzkhalu_draw_curve(uint32_t side, const uint8_t *points, size_t points_len, uint32_t steps, uint8_t mark,
@@ -118,12 +120,12 @@ int64_t gidzkhalu_draw_curve(uint32_t side, const uint8_t *points, size_t points
 /* Patches: points has x y z of points 0 to 15, 48 bytes; g(i, j), i along t and j along u, is point 4 i + j. n steps
    along t, m along u. */
 
-/* Whether a patch can be drawn: 0 if so.
+/* Whether a patch can be drawn. Answer: 0.
    Refusals: 51, 11, 13, 14, 15.
    Stack: 856 bytes. Instructions: 3380655. Environment: any. */
 int64_t gidzkhalu_check_patch(uint32_t side, const uint8_t *points, size_t points_len, uint32_t n, uint32_t m);
 
-/* Writes the mark in the cell of each sample: (n + 1) (m + 1).
+/* Writes the mark in the cell of each sample. Answer: (n + 1) (m + 1).
    Refusals: 51, 11, 21, 12, 13, 14, 15.
    Stack: 1688 bytes. Instructions: 5513241. Environment: any. */
 int64_t gidzkhalu_draw_patch(uint32_t side, const uint8_t *points, size_t points_len, uint32_t n, uint32_t m,
@@ -138,13 +140,13 @@ int64_t gidzkhalu_draw_patch(uint32_t side, const uint8_t *points, size_t points
      (c, r, p), (q, c, p), (p, c, r), (p, q, c), (r, p, c), (c, p, q) for k from 0 to 5, where
      p = c (1 - b), q = c (1 - b f), r = c (1 - b (1 - f)), inner operations first, each of f32 and rounded once. */
 
-/* Writes x y z of the swatch's cell, 3 bytes: 0.
+/* Writes x y z of the swatch's cell, 3 bytes. Answer: 0.
    Refusals: 53, 52, 11, then the swatch's.
    Stack: 8 bytes. Instructions: 107. Environment: default. */
 int64_t gidzkhalu_to_cell(uint32_t side, uint32_t kind, float a, float b, float c, uint8_t *cell, size_t cell_len);
 
 /* Writes red, green and blue of the swatch half-way between two, 12 bytes: the bit pattern of each f32, the low byte
-   first. 0.
+   first. Answer: 0.
    Refusals: 53 (of either kind), 52, then the first swatch's, then the second's.
    Stack: 8 bytes. Instructions: 111. Environment: default. */
 int64_t gidzkhalu_half_way(uint32_t kind, float a, float b, float c, uint32_t kind2, float a2, float b2, float c2,
@@ -152,11 +154,12 @@ int64_t gidzkhalu_half_way(uint32_t kind, float a, float b, float c, uint32_t ki
 
 /* Sheets. */
 
-/* Draws a sheet into the first side x side x side bytes of the buffer, cleared first; the rest keeps what it held. The
-   number of curve lines, and the side in the one byte of detail; or minus the number, and the line there (0 for 21).
+/* Draws a sheet into the first side x side x side bytes of the buffer, cleared first; the rest keeps what it held. Writes
+   the side into the one byte of detail, or where the sheet is refused the line (0 for 21). Answer: the number of curve
+   lines.
    Refusals: 52 (the detail is not 1 byte, and is left), 21; then of line 1: 41, 42, 11, 43; then of each later line in
    turn: 44, 41, 42, 12, 13, 14, 15.
-   memset is called for at most 64000 bytes.
+   memset is called for at most 64000 bytes. An input that goes on after 200 curve lines takes no longer.
    Stack: 337 bytes. Instructions: 6282518. Environment: any. */
 int64_t gidzkhalu_draw_sheet(const uint8_t *input, size_t input_len, uint8_t *buffer, size_t buffer_len,
                              uint8_t *detail, size_t detail_len);
@@ -164,7 +167,7 @@ int64_t gidzkhalu_draw_sheet(const uint8_t *input, size_t input_len, uint8_t *bu
 /* Writes the part of a cube's listing for count places from byte first on from the front of the text and leaves the
    rest; the part from byte 0 begins with the heading. Parts in turn, the first not empty, are the whole listing. Places
    past the cube are none: a count that reaches past it lists up to its end, and a first at its end or past it lists
-   nothing and answers 0. The number of bytes.
+   nothing and answers 0. Answer: the number of bytes.
    Refusals: 11, 21, 22 (the text is shorter than 21 (count + 1) bytes, wherever the part begins and ends).
    Stack: 104 bytes. Instructions: 20553811. Environment: any. */
 int64_t gidzkhalu_list_part(uint32_t side, const uint8_t *cube, size_t cube_len, size_t first, size_t count,
@@ -172,15 +175,15 @@ int64_t gidzkhalu_list_part(uint32_t side, const uint8_t *cube, size_t cube_len,
 
 /* Writes the totals of a cube from the front of the text and leaves the rest: a line of 51 bytes for each of the marks 1
    to 255 that some cell holds, in rising order, and one for mark 0, the unmarked cells, whether there are any or not. In
-   a line are the mark, the count of its cells and the sums of their x, y and z, each in 10 columns, and a line feed. The
-   number of bytes.
+   a line are the mark, the count of its cells and the sums of their x, y and z, each in 10 columns, and a line feed.
+   Answer: the number of bytes.
    Refusals: 11, 21, 22 (the text is shorter than 256 lines, 13056 bytes).
    memset is called for 8192 bytes.
    Stack: 8296 bytes. Instructions: 1865482. Environment: any. */
 int64_t gidzkhalu_totals(uint32_t side, const uint8_t *cube, size_t cube_len, uint8_t *text, size_t text_len);
 
 /* Writes the line of a refused sheet from the front of the text and leaves the rest: REFUSED, number and line in 5
-   columns each, a line feed. 18.
+   columns each, a line feed. Answer: 18.
    Refusals: 54 (number or line is above 99999), 22 (the text is shorter than 18 bytes).
    Stack: 8 bytes. Instructions: 122. Environment: any. */
 int64_t gidzkhalu_refusal_line(uint32_t number, uint32_t line, uint8_t *text, size_t text_len);

@@ -335,6 +335,10 @@ static int run_function(int k) {
                f->first[e]);
     for (int e = DEFAULT + 1; e < ENVIRONMENTS; e++)
         good &= as_stated(f, e);
+    if (f->stated == 'd' && same) {
+        printf("FAILED: %s takes any environment; stated is 'Environment: default'\n", f->name);
+        good = 0;
+    }
     if (f->accepted > 0 && f->accepted < f->cases)
         return good;
     printf("FAILED: %s was not both accepted and refused\n", f->name);

@@ -183,10 +183,11 @@ static void half_ways(void) {
 }
 
 /* Sheets: 200 lines of 512 steps at side 40, each read, checked and drawn. A field takes longer with more digits, so the
-   least coordinate is 0 or 10. A sheet that is refused draws nothing: the last one is refused at its last byte. */
-enum { SIDE_LINE = 6, LINE = 71, LINES = GIDZKHALU_SHEET_CURVES_MOST };
+   least coordinate is 0 or 10. A sheet that is refused draws nothing: the last ones are refused for the bytes after their
+   200 lines, one or many. */
+enum { SIDE_LINE = 6, LINE = 71, LINES = GIDZKHALU_SHEET_CURVES_MOST, WHOLE = SIDE_LINE + LINES * LINE, TAIL = 100000 };
 
-static uint8_t sheet[SIDE_LINE + LINES * LINE + 1], buffer[GIDZKHALU_SHEET_BUFFER_BYTES];
+static uint8_t sheet[WHOLE + TAIL], buffer[GIDZKHALU_SHEET_BUFFER_BYTES];
 
 static void put_field(uint8_t *to, unsigned number) {
     char field[16];
@@ -213,8 +214,7 @@ static void sheet_of(struct axes axes, uint8_t least, size_t more) {
     sheet[SIDE_LINE - 1] = '\n';
     for (int line = 0; line < LINES; line++)
         put_line(sheet + SIDE_LINE + LINE * line, axes, least);
-    sheet[sizeof sheet - 1] = '\n';
-    answer = gidzkhalu_draw_sheet(sheet, sizeof sheet - 1 + more, buffer, sizeof buffer, detail, sizeof detail);
+    answer = gidzkhalu_draw_sheet(sheet, WHOLE + more, buffer, sizeof buffer, detail, sizeof detail);
     printf("%" PRId64 ": side %d, %d lines of %d steps, coordinates from %d, ", answer, GIDZKHALU_SHEET_SIDE_MOST, LINES,
            GIDZKHALU_CURVE_STEPS_MOST, least);
     print_axes(axes);
@@ -230,6 +230,7 @@ static void sheets(void) {
         }
     }
     sheet_of(falls, 0, 1);
+    sheet_of(falls, 0, TAIL);
 }
 
 /* Listings: the whole cube of side 64 with every cell marked; a number takes longer with more digits. */
