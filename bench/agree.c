@@ -385,8 +385,8 @@ static void some_totals(void)
 
 static void some_refusal_line(void)
 {
-    in.number = rarely(2) ? random_below(60) : (uint32_t)random_bits();
-    in.line = rarely(2) ? random_below(203) : (uint32_t)random_bits();
+    in.number = rarely(2) ? random_below(60) : random_below(110000);
+    in.line = rarely(2) ? random_below(203) : random_below(110000);
     in.lent_len = 17 + random_below(5);
     agree("refusal_line", call_refusal_line, 32);
 }

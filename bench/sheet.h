@@ -219,6 +219,8 @@ answer CALL(totals)(uint32_t side, const uint8_t *cube, size_t cube_len, uint8_t
 
 answer CALL(refusal_line)(uint32_t number, uint32_t line, uint8_t *text, size_t text_len)
 {
+    if (number > 99999 || line > 99999)
+        return -54;
     if (text_len < 18)
         return -22;
     memcpy(text, "REFUSED", 7);

@@ -5,8 +5,8 @@
 
 int main(void) {
     enum { SIDE = 8 };
-    static uint8_t grid[SIDE * SIDE * SIDE];
-    uint8_t points[48];
+    static uint8_t grid[GIDZKHALU_CUBE_BYTES(SIDE)];
+    uint8_t points[GIDZKHALU_PATCH_BYTES];
     for (int i = 0; i < 4; i++) {
         for (int j = 0; j < 4; j++) {
             uint8_t *p = points + 3 * (4 * i + j);
@@ -16,6 +16,10 @@ int main(void) {
         }
     }
     int64_t answer = gidzkhalu_draw_patch(SIDE, points, sizeof points, 4, 4, 7, grid, sizeof grid);
+    if (answer == -GIDZKHALU_REFUSED_LONG_STEP) {
+        printf("refused: too few steps\n");
+        return 1;
+    }
     if (answer < 0) {
         printf("refused: %d\n", (int)-answer);
         return 1;

@@ -2,36 +2,30 @@
 
    Every function answers one signed number: a count (0 or more), or minus the number of the first refusal that applies.
    A refused call changes nothing that is lent to it, but for the line that a refused sheet writes into its detail.
-   Nothing is kept between calls, and no heap is taken.
+   Nothing is kept between calls, no heap is taken, and of other functions only memset is called.
 
-   What the caller must keep: each pointer is valid for the length beside it (a pointer to any byte will do for the
-   length 0), what is written is not also read or written elsewhere during the call, and the buffers of one call do not
-   overlap. What the caller need not keep: any length, side, count, mark, coordinate or f32 may be passed; what is
-   wrong is refused.
+   What the caller must keep:
+     - x86-64 with the System V calling convention, the alignment of the stack included.
+     - Each pointer is valid for the length beside it. What is written is not also read or written elsewhere during the
+       call, and the buffers of one call do not overlap.
+     - Where a function says "Environment: default", the default floating-point environment: round to nearest,
+       subnormals kept (in MXCSR neither flush-to-zero nor denormals-are-zero; a program linked with -ffast-math may begin
+       with both), every exception masked. Under another one gidzkhalu_to_cell and gidzkhalu_half_way may accept what is
+       to be refused, write other bytes or end in a signal. Where a function says "Environment: any", its answers and
+       bytes do not depend on it. `bash tests/environment.sh` shows both.
+     - The stack that a function states. Some calls write below the stack pointer (the red zone): an interrupt on the
+       same stack must leave 128 bytes there.
+   What the caller need not keep:
+     - Any length, side, count, mark, coordinate, kind or f32 may be passed; what is wrong is refused.
+     - NULL may be passed with the length 0, for every buffer: nothing is read or written through it.
+     - No buffer needs an alignment.
+     - Any number of threads may call at once, each with buffers of its own; what is only read may be shared.
 
-   Stack: the most bytes that a call takes on x86-64, as `bash tests/stack.sh` measures them on a painted stack. The
-   return address is counted; arguments that the caller passes on the stack and what memset takes itself are not. Some
-   calls write below the stack pointer (the red zone): an interrupt on the same stack must leave 128 bytes there.
-
-   Refusal numbers, as the documents have them:
-     11  the side is outside 2 to 64
-     12  the mark is 0, or in a sheet above 255
-     13  a step count is outside its range: 1 to 512 for a curve, 1 to 256 for either count of a patch
-     14  a coordinate is not below the side
-     15  two neighbouring samples lie more than one cell apart on some axis
-     21  the grid or the cube is not side x side x side bytes, or a sheet's buffer not 64000
-     22  the list or the text is too short
-     31  a channel, hue, saturation or value is infinite or no number
-     32  a channel, saturation or value is below 0 or above 1
-     33  a hue is below 0, or 6 or above
-     41  a line of wrong length, a missing line feed, or no line 1
-     42  a bad field
-     43  a sheet's side of 41 to 64
-     44  a byte after the 200th curve line
-   And of this interface alone, before all others:
-     51  a record of another length: a curve's points are not 12 bytes, a patch's not 48
-     53  a kind of swatch that does not exist, above 2
-     52  an out-buffer of another length (after 51 and 53) */
+   Stack: the most bytes that a call takes, as `bash tests/stack.sh` measures them on a painted stack. The return address
+   is counted; arguments that the caller passes on the stack and what memset takes itself are not.
+   Instructions: those of the longest call, as `bash tests/longest.sh` counts them over inputs that are chosen to take
+   long: a measure, not a proof. What memset executes itself is not counted; the functions that call it say for how many
+   bytes. */
 #ifndef GIDZKHALU_H
 #define GIDZKHALU_H
 
@@ -42,69 +36,156 @@
 extern "C" {
 #endif
 
+/* The refusal numbers, as the documents have them. An answer is minus one of them. */
+enum {
+    GIDZKHALU_REFUSED_SIDE = 11,            /* the side is outside 2 to 64 */
+    GIDZKHALU_REFUSED_MARK = 12,            /* the mark is 0, or in a sheet above 255 */
+    GIDZKHALU_REFUSED_STEPS = 13,           /* a step count outside 1 to 512 (curve) or 1 to 256 (each of a patch) */
+    GIDZKHALU_REFUSED_COORDINATE = 14,      /* a coordinate is not below the side */
+    GIDZKHALU_REFUSED_LONG_STEP = 15,       /* two neighbouring samples lie more than one cell apart on some axis */
+    GIDZKHALU_REFUSED_LENGTH = 21,          /* the grid or cube is not side^3 bytes, or a sheet's buffer not 64000 */
+    GIDZKHALU_REFUSED_SHORT = 22,           /* the list or the text is too short */
+    GIDZKHALU_REFUSED_NOT_FINITE = 31,      /* a channel, hue, saturation or value is infinite or no number */
+    GIDZKHALU_REFUSED_CHANNEL = 32,         /* a channel, saturation or value is below 0 or above 1 */
+    GIDZKHALU_REFUSED_HUE = 33,             /* a hue is below 0, or 6 or above */
+    GIDZKHALU_REFUSED_LINE = 41,            /* a line of wrong length, a missing line feed, or no line 1 */
+    GIDZKHALU_REFUSED_FIELD = 42,           /* a bad field */
+    GIDZKHALU_REFUSED_SHEET_SIDE = 43,      /* a sheet's side of 41 to 64 */
+    GIDZKHALU_REFUSED_PAST_LAST_LINE = 44,  /* a byte after the 200th curve line */
+    /* Of this interface alone, tried before all others, 51 and 53 before 52. */
+    GIDZKHALU_REFUSED_RECORD_LENGTH = 51,   /* a curve's points are not 12 bytes, a patch's not 48 */
+    GIDZKHALU_REFUSED_OUT_LENGTH = 52,      /* a cell is not 3 bytes, channels not 12, a detail not 1 */
+    GIDZKHALU_REFUSED_KIND = 53,            /* a kind of swatch that does not exist, above 2 */
+    /* Of the refusal line, here and in Rattle. */
+    GIDZKHALU_REFUSED_NUMBER = 54           /* a number or a line that five columns do not hold, above 99999 */
+};
+
+/* Limits. */
+enum {
+    GIDZKHALU_SIDE_LEAST = 2,
+    GIDZKHALU_SIDE_MOST = 64,
+    GIDZKHALU_SHEET_SIDE_MOST = 40,
+    GIDZKHALU_CURVE_STEPS_MOST = 512,
+    GIDZKHALU_PATCH_STEPS_MOST = 256,
+    GIDZKHALU_SHEET_CURVES_MOST = 200,
+    GIDZKHALU_REFUSAL_NUMBER_MOST = 99999   /* of a refusal line's number and line */
+};
+
+/* Kinds of swatches. */
+enum { GIDZKHALU_COLOUR = 0, GIDZKHALU_GREY = 1, GIDZKHALU_HUE = 2 };
+
+/* Lengths in bytes. */
+enum {
+    GIDZKHALU_CURVE_BYTES = 12,             /* points of a curve, exactly */
+    GIDZKHALU_PATCH_BYTES = 48,             /* points of a patch, exactly */
+    GIDZKHALU_CELL_BYTES = 3,               /* a cell, exactly */
+    GIDZKHALU_CHANNELS_BYTES = 12,          /* three f32, exactly */
+    GIDZKHALU_SHEET_BUFFER_BYTES = 64000,   /* a sheet's buffer, exactly */
+    GIDZKHALU_DETAIL_BYTES = 1,             /* a sheet's detail, exactly */
+    GIDZKHALU_LISTING_LINE_BYTES = 21,      /* the heading, and each line of a listing */
+    GIDZKHALU_TOTALS_LINE_BYTES = 51,       /* each line of totals */
+    GIDZKHALU_TOTALS_BYTES = 13056,         /* a text for totals, at least: 256 lines */
+    GIDZKHALU_REFUSAL_LINE_BYTES = 18       /* a text for a refusal line, at least */
+};
+
+/* Lengths in bytes by a side, a step count or a count of places, each within its limits: a grid or cube, exactly; a
+   curve's list, at least; a text for a part of a listing, at least. */
+#define GIDZKHALU_CUBE_BYTES(side) ((size_t)(side) * (size_t)(side) * (size_t)(side))
+#define GIDZKHALU_LIST_BYTES(steps) (GIDZKHALU_CELL_BYTES * ((size_t)(steps) + 1))
+#define GIDZKHALU_PART_BYTES(count) (GIDZKHALU_LISTING_LINE_BYTES * ((size_t)(count) + 1))
+
+/* At each function, "Answer" is that of an accepted call, and "Refusals" are the numbers that it can answer minus, in the
+   order in which they are tried. */
+
 /* Curves: points has x y z of points 0 to 3, 12 bytes. A cell (x, y, z) stands at byte x + side y + side side z. */
 
-/* Whether a curve can be drawn: 0, or 51, 11, 13, 14, 15. Stack: 184 bytes. */
+/* Whether a curve can be drawn. Answer: 0.
+   Refusals: 51, 11, 13, 14, 15.
+   Stack: 184 bytes. Instructions: 12512. Environment: any. */
 int64_t gidzkhalu_check_curve(uint32_t side, const uint8_t *points, size_t points_len, uint32_t steps);
 
-/* Writes x y z of the cell of samples 0 to steps from the front of the list: steps + 1, or 51, 11, 13, 22, 14, 15.
-   22: the list is shorter than 3 (steps + 1) bytes. Stack: 296 bytes. */
+/* Writes x y z of the cell of samples 0 to steps from the front of the list and leaves the rest. Answer:
+   steps + 1.
+   Refusals: 51, 11, 13, 22 (the list is shorter than 3 (steps + 1) bytes), 14, 15.
+   Stack: 296 bytes. Instructions: 29215. Environment: any. */
 int64_t gidzkhalu_list_curve(uint32_t side, const uint8_t *points, size_t points_len, uint32_t steps,
                              uint8_t *list, size_t list_len);
 
-/* Writes the mark in the cell of each sample: steps + 1, or 51, 11, 21, 12, 13, 14, 15. Stack: 241 bytes. */
+/* Writes the mark in the cell of each sample. Answer: steps + 1.
+   Refusals: 51, 11, 21, 12, 13, 14, 15.
+   Stack: 241 bytes. Instructions: 30076. Environment: any. */
 int64_t gidzkhalu_draw_curve(uint32_t side, const uint8_t *points, size_t points_len, uint32_t steps, uint8_t mark,
                              uint8_t *grid, size_t grid_len);
 
 /* Patches: points has x y z of points 0 to 15, 48 bytes; g(i, j), i along t and j along u, is point 4 i + j. n steps
    along t, m along u. */
 
-/* Whether a patch can be drawn: 0, or 51, 11, 13, 14, 15. Stack: 856 bytes. */
+/* Whether a patch can be drawn. Answer: 0.
+   Refusals: 51, 11, 13, 14, 15.
+   Stack: 856 bytes. Instructions: 3380655. Environment: any. */
 int64_t gidzkhalu_check_patch(uint32_t side, const uint8_t *points, size_t points_len, uint32_t n, uint32_t m);
 
-/* Writes the mark in the cell of each sample: (n + 1) (m + 1), or 51, 11, 21, 12, 13, 14, 15. Stack: 1688 bytes. */
+/* Writes the mark in the cell of each sample. Answer: (n + 1) (m + 1).
+   Refusals: 51, 11, 21, 12, 13, 14, 15.
+   Stack: 1688 bytes. Instructions: 5513241. Environment: any. */
 int64_t gidzkhalu_draw_patch(uint32_t side, const uint8_t *points, size_t points_len, uint32_t n, uint32_t m,
                              uint8_t mark, uint8_t *grid, size_t grid_len);
 
-/* Swatches: kind 0 is a colour, kind 1 a grey, kind 2 a hue with its saturation and value.
-     0  a b c are red, green and blue; each in turn is tried for 31, 32
-     1  a is the grey, tried for 31, 32; b and c are not looked at
-     2  a is the hue, from 0 to below 6, tried for 31, 33; b is the saturation and c the value, tried after it, each in
-        turn for 31, 32
+/* Swatches: kind 0 is a colour, kind 1 a grey, kind 2 a hue with its saturation and value. A swatch's refusals, in the
+   order in which they are tried:
+     0  a, b, c are red, green and blue: 31, 32 of a; 31, 32 of b; 31, 32 of c
+     1  a is the grey: 31, 32 of a; b and c are not looked at
+     2  a is the hue, from 0 to below 6, b the saturation, c the value: 31, 33 of a; 31, 32 of b; 31, 32 of c
    With k the whole part of a and f = a - k, kind 2 stands for the red, green and blue
      (c, r, p), (q, c, p), (p, c, r), (p, q, c), (r, p, c), (c, p, q) for k from 0 to 5, where
      p = c (1 - b), q = c (1 - b f), r = c (1 - b (1 - f)), inner operations first, each of f32 and rounded once. */
 
-/* Writes x y z of the swatch's cell, 3 bytes: 0, or 53, 52, 11, then the swatch's numbers. Stack: 8 bytes. */
+/* Writes x y z of the swatch's cell, 3 bytes. Answer: 0.
+   Refusals: 53, 52, 11, then the swatch's.
+   Stack: 8 bytes. Instructions: 107. Environment: default. */
 int64_t gidzkhalu_to_cell(uint32_t side, uint32_t kind, float a, float b, float c, uint8_t *cell, size_t cell_len);
 
 /* Writes red, green and blue of the swatch half-way between two, 12 bytes: the bit pattern of each f32, the low byte
-   first. 0, or 53, 52, then the numbers of the first swatch, then of the second. Stack: 8 bytes. */
+   first. Answer: 0.
+   Refusals: 53 (of either kind), 52, then the first swatch's, then the second's.
+   Stack: 8 bytes. Instructions: 111. Environment: default. */
 int64_t gidzkhalu_half_way(uint32_t kind, float a, float b, float c, uint32_t kind2, float a2, float b2, float c2,
                            uint8_t *channels, size_t channels_len);
 
 /* Sheets. */
 
-/* Draws a sheet into the first side x side x side bytes of the buffer, cleared first; the rest keeps what it held. The
-   number of curve lines, and the side in the one byte of detail; or minus the number, and the line there (0 for 21). 52:
-   the detail is not 1 byte. Stack: 337 bytes. */
+/* Draws a sheet into the first side x side x side bytes of the buffer, cleared first; the rest keeps what it held. Writes
+   the side into the one byte of detail, or where the sheet is refused the line (0 for 21). Answer: the number of curve
+   lines.
+   Refusals: 52 (the detail is not 1 byte, and is left), 21; then of line 1: 41, 42, 11, 43; then of each later line in
+   turn: 44, 41, 42, 12, 13, 14, 15.
+   memset is called for at most 64000 bytes. An input that goes on after 200 curve lines takes no longer.
+   Stack: 337 bytes. Instructions: 6282518. Environment: any. */
 int64_t gidzkhalu_draw_sheet(const uint8_t *input, size_t input_len, uint8_t *buffer, size_t buffer_len,
                              uint8_t *detail, size_t detail_len);
 
-/* Writes the part of a cube's listing for count places from byte first on from the front of the text; the part from
-   byte 0 begins with the heading. Parts in turn, the first not empty, are the whole listing. The number of bytes, or 11,
-   21, 22. 22: the text is shorter than 21 (count + 1) bytes. Stack: 104 bytes. */
+/* Writes the part of a cube's listing for count places from byte first on from the front of the text and leaves the
+   rest; the part from byte 0 begins with the heading. Parts in turn, the first not empty, are the whole listing. Places
+   past the cube are none: a count that reaches past it lists up to its end, and a first at its end or past it lists
+   nothing and answers 0. Answer: the number of bytes.
+   Refusals: 11, 21, 22 (the text is shorter than 21 (count + 1) bytes, wherever the part begins and ends).
+   Stack: 104 bytes. Instructions: 20553811. Environment: any. */
 int64_t gidzkhalu_list_part(uint32_t side, const uint8_t *cube, size_t cube_len, size_t first, size_t count,
                             uint8_t *text, size_t text_len);
 
-/* Writes the totals of a cube from the front of the text: a line of 51 bytes for each of the marks 1 to 255 that some
-   cell holds, in rising order, and one for mark 0, the unmarked cells, whether there are any or not. In a line are the
-   mark, the count of its cells and the sums of their x, y and z, each in 10 columns, and a line feed. The number of
-   bytes, or 11, 21, 22. 22: the text is shorter than 256 lines, 13056 bytes. Stack: 8296 bytes. */
+/* Writes the totals of a cube from the front of the text and leaves the rest: a line of 51 bytes for each of the marks 1
+   to 255 that some cell holds, in rising order, and one for mark 0, the unmarked cells, whether there are any or not. In
+   a line are the mark, the count of its cells and the sums of their x, y and z, each in 10 columns, and a line feed.
+   Answer: the number of bytes.
+   Refusals: 11, 21, 22 (the text is shorter than 256 lines, 13056 bytes).
+   memset is called for 8192 bytes.
+   Stack: 8296 bytes. Instructions: 1865482. Environment: any. */
 int64_t gidzkhalu_totals(uint32_t side, const uint8_t *cube, size_t cube_len, uint8_t *text, size_t text_len);
 
-/* Writes the line of a refused sheet from the front of the text: 18, or 22 where the text is shorter than that.
-   Stack: 8 bytes. */
+/* Writes the line of a refused sheet from the front of the text and leaves the rest: REFUSED, number and line in 5
+   columns each, a line feed. Answer: 18.
+   Refusals: 54 (number or line is above 99999), 22 (the text is shorter than 18 bytes).
+   Stack: 8 bytes. Instructions: 122. Environment: any. */
 int64_t gidzkhalu_refusal_line(uint32_t number, uint32_t line, uint8_t *text, size_t text_len);
 
 #ifdef __cplusplus

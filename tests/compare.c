@@ -1,29 +1,35 @@
 /* The buffers, counts and failures of compare.h. */
 #include "compare.h"
 #include "cases.h"
+#include "gidzkhalu.h"
 
 #include <inttypes.h>
 #include <stdio.h>
 #include <stdlib.h>
 #include <string.h>
 
-enum { GUARD = 64 };
+enum { GUARD = 64, SHIFTS = 16 };
 
-static uint8_t *renewed(uint8_t *inner, size_t len) {
-    uint8_t *whole = realloc(inner == NULL ? NULL : inner - GUARD, len + 2 * GUARD);
+/* Room for len bytes between guards and a shift before them; inner is the old one, shifted, or NULL. */
+static uint8_t *renewed(uint8_t *inner, size_t shift, size_t len) {
+    uint8_t *whole = realloc(inner == NULL ? NULL : inner - GUARD - shift, len + 2 * GUARD + SHIFTS);
     if (whole == NULL) {
         fprintf(stderr, "no memory\n");
         exit(2);
     }
-    return whole + GUARD;
+    return whole + GUARD + shift;
 }
 
 void lend(struct lent *l, size_t len) {
+    size_t shift = below(SHIFTS);
     if (l->got == NULL || l->room < len) {
-        l->got = renewed(l->got, len);
-        l->want = renewed(l->want, len);
+        l->got = renewed(l->got, l->shift, len);
+        l->want = renewed(l->want, l->shift, len);
         l->room = len;
     }
+    l->got = l->got - l->shift + shift;
+    l->want = l->want - l->shift + shift;
+    l->shift = shift;
     l->len = len;
     random_bytes(l->want - GUARD, len + 2 * GUARD);
     memcpy(l->got - GUARD, l->want - GUARD, len + 2 * GUARD);
@@ -45,7 +51,26 @@ int same(const struct lent *l) { return memcmp(l->got - GUARD, l->want - GUARD, 
 
 /* Counts */
 
-const int NUMBER[NUMBERS] = {0, 11, 12, 13, 14, 15, 21, 22, 31, 32, 33, 41, 42, 43, 44, 51, 52, 53};
+/* As the header has them; the reference and the orders have the documents' own. */
+const int NUMBER[NUMBERS] = {0,
+                             GIDZKHALU_REFUSED_SIDE,
+                             GIDZKHALU_REFUSED_MARK,
+                             GIDZKHALU_REFUSED_STEPS,
+                             GIDZKHALU_REFUSED_COORDINATE,
+                             GIDZKHALU_REFUSED_LONG_STEP,
+                             GIDZKHALU_REFUSED_LENGTH,
+                             GIDZKHALU_REFUSED_SHORT,
+                             GIDZKHALU_REFUSED_NOT_FINITE,
+                             GIDZKHALU_REFUSED_CHANNEL,
+                             GIDZKHALU_REFUSED_HUE,
+                             GIDZKHALU_REFUSED_LINE,
+                             GIDZKHALU_REFUSED_FIELD,
+                             GIDZKHALU_REFUSED_SHEET_SIDE,
+                             GIDZKHALU_REFUSED_PAST_LAST_LINE,
+                             GIDZKHALU_REFUSED_RECORD_LENGTH,
+                             GIDZKHALU_REFUSED_OUT_LENGTH,
+                             GIDZKHALU_REFUSED_KIND,
+                             GIDZKHALU_REFUSED_NUMBER};
 
 int index_of(int number) {
     for (int k = 0; k < NUMBERS; k++)
@@ -73,6 +98,12 @@ const char *const MET_WORDS[METS] = {MET(MET_TEXT)};
 uint64_t met[METS];
 
 void meet(enum met what, int holds) { met[what] += holds != 0; }
+
+uint8_t *passed(const struct lent *l, enum met null) {
+    int is_null = l->len == 0 && one_in(2);
+    meet(null, is_null);
+    return is_null ? NULL : l->got;
+}
 
 /* Failures */
 

@@ -11,10 +11,10 @@
 struct lent {
     const char *name;
     uint8_t *got, *want;
-    size_t len, room;
+    size_t len, room, shift; /* got and want begin so many bytes, from 0 to 15, past a multiple of 16 */
 };
 
-/* Lends random bytes, given ones, or those of a random cube. */
+/* Lends random bytes, given ones, or those of a random cube, from an address of any alignment on. */
 void lend(struct lent *lent, size_t len);
 void lend_bytes(struct lent *lent, const uint8_t *bytes, size_t len);
 void lend_cube(struct lent *lent, size_t len);
@@ -23,7 +23,7 @@ void lend_cube(struct lent *lent, size_t len);
 int same(const struct lent *lent);
 
 /* The refusal numbers; 0 stands for an accepted call. */
-enum { NUMBERS = 18 };
+enum { NUMBERS = 19 };
 
 extern const int NUMBER[NUMBERS];
 int index_of(int number);
@@ -115,6 +115,18 @@ void count_order(struct counts *counts, const struct order *order);
     X(TOTALS_EXACT, "totals in a text of exactly 13056 bytes")                                                         \
     X(TOTALS_SHORT, "22 for a text one byte short of 13056")                                                           \
     X(TOTALS_SHEET, "totals of a sheet of two curve lines or more")                                                    \
+    X(LINE_99999, "refusal lines with 99999")                                                                          \
+    X(LINE_100000, "54 for 100000")                                                                                    \
+    X(NULL_POINTS, "NULL for points of length 0")                                                                      \
+    X(NULL_GRID, "NULL for a grid of length 0")                                                                        \
+    X(NULL_LIST, "NULL for a list of length 0")                                                                        \
+    X(NULL_CELL, "NULL for a cell of length 0")                                                                        \
+    X(NULL_CHANNELS, "NULL for channels of length 0")                                                                  \
+    X(NULL_INPUT, "NULL for an input of length 0")                                                                     \
+    X(NULL_BUFFER, "NULL for a sheet's buffer of length 0")                                                            \
+    X(NULL_DETAIL, "NULL for a detail of length 0")                                                                    \
+    X(NULL_CUBE, "NULL for a cube of length 0")                                                                        \
+    X(NULL_TEXT, "NULL for a text of length 0")                                                                        \
     X(LIST_OF_THREE, "lists with three accepted calls or more")
 
 #define MET_NAME(name, words) name,
@@ -124,6 +136,9 @@ extern const char *const MET_WORDS[METS];
 extern uint64_t met[METS];
 
 void meet(enum met what, int holds);
+
+/* What the library is passed for a buffer. Of length 0, in every second case NULL, which is met. */
+uint8_t *passed(const struct lent *lent, enum met null);
 
 /* The case that runs. */
 struct running {

@@ -12,10 +12,9 @@
 #include <string.h>
 #include <time.h>
 
-static struct lent points = {"points", NULL, NULL, 0, 0}, grid = {"grid or list", NULL, NULL, 0, 0},
-                   small = {"cell or channels", NULL, NULL, 0, 0}, input = {"input", NULL, NULL, 0, 0},
-                   buffer = {"buffer", NULL, NULL, 0, 0}, detail = {"detail", NULL, NULL, 0, 0},
-                   cube = {"cube", NULL, NULL, 0, 0}, text = {"text", NULL, NULL, 0, 0};
+static struct lent points = {.name = "points"}, grid = {.name = "grid or list"}, small = {.name = "cell or channels"},
+                   input = {.name = "input"}, buffer = {.name = "buffer"}, detail = {.name = "detail"},
+                   cube = {.name = "cube"}, text = {.name = "text"};
 
 /* Curves and patches */
 
@@ -96,8 +95,9 @@ static int compare_object(struct object_call *c, int64_t *want) {
     c->points = points.want;
     c->lent = grid.want;
     *want = reference_object(c, &order, &samples);
-    c->points = points.got;
-    c->lent = grid.got;
+    c->points = passed(&points, NULL_POINTS);
+    if (c->service != CHECK)
+        c->lent = passed(&grid, c->service == LIST ? NULL_LIST : NULL_GRID);
     got = library_object(c);
     count_order(running.counts, &order);
     if (*want >= 0)
@@ -222,10 +222,10 @@ static int to_cell_case(uint32_t kind, int wrong) {
     random_swatch(&s, kind, side);
     if (faults & 1)
         s.kind = bad_kind();
-    lend(&small, small_length(3, faults & 2));
+    lend(&small, small_length(GIDZKHALU_CELL_BYTES, faults & 2));
     want = reference_to_cell(side, &s, small.want, small.len, &order);
     got = gidzkhalu_to_cell(side, s.kind, float_of(s.number[0]), float_of(s.number[1]), float_of(s.number[2]),
-                            small.got, small.len);
+                            passed(&small, NULL_CELL), small.len);
     count_order(running.counts, &order);
     meet_swatch(side, &s, want);
     if (want == got && same(&small))
@@ -262,11 +262,11 @@ static int half_way_case(int wrong) {
         a.kind = bad_kind();
     if (faults & 2)
         b.kind = bad_kind();
-    lend(&small, small_length(12, faults & 4));
+    lend(&small, small_length(GIDZKHALU_CHANNELS_BYTES, faults & 4));
     want = reference_half_way(&a, &b, small.want, small.len, &order);
     got = gidzkhalu_half_way(a.kind, float_of(a.number[0]), float_of(a.number[1]), float_of(a.number[2]), b.kind,
-                             float_of(b.number[0]), float_of(b.number[1]), float_of(b.number[2]), small.got,
-                             small.len);
+                             float_of(b.number[0]), float_of(b.number[1]), float_of(b.number[2]),
+                             passed(&small, NULL_CHANNELS), small.len);
     count_order(running.counts, &order);
     if (want == 0)
         meet_half_way(&a, &b);
@@ -295,10 +295,11 @@ static int sheet_case(int large, int wrong, int64_t *want) {
     struct order order = {0};
     int64_t got;
     lend_bytes(&input, sheet, random_sheet(sheet, large));
-    lend(&buffer, one_in(20) ? sheet_buffer_length() : 64000);
-    lend(&detail, small_length(1, wrong || one_in(40)));
+    lend(&buffer, one_in(20) ? sheet_buffer_length() : GIDZKHALU_SHEET_BUFFER_BYTES);
+    lend(&detail, small_length(GIDZKHALU_DETAIL_BYTES, wrong || one_in(40)));
     *want = reference_draw_sheet(input.want, input.len, buffer.want, buffer.len, detail.want, detail.len, &order);
-    got = gidzkhalu_draw_sheet(input.got, input.len, buffer.got, buffer.len, detail.got, detail.len);
+    got = gidzkhalu_draw_sheet(passed(&input, NULL_INPUT), input.len, passed(&buffer, NULL_BUFFER), buffer.len,
+                               passed(&detail, NULL_DETAIL), detail.len);
     count_order(running.counts, &order);
     meet(SHEET_200, *want == 200);
     meet(SHEET_SIDE_40, *want >= 0 && detail.want[0] == 40);
@@ -372,7 +373,8 @@ static int compare_part(uint32_t side, size_t first, size_t count, size_t text_l
     int64_t want;
     lend(&text, text_len);
     want = reference_list_part(side, cube.want, cube.len, first, count, text.want, text.len, &order);
-    *bytes = gidzkhalu_list_part(side, cube.got, cube.len, first, count, text.got, text.len);
+    *bytes = gidzkhalu_list_part(side, passed(&cube, NULL_CUBE), cube.len, first, count, passed(&text, NULL_TEXT),
+                                 text.len);
     count_order(running.counts, &order);
     meet(PART_HEADING, want >= 0 && first == 0);
     meet(PART_PAST, want >= 0 && first >= cube.len);
@@ -414,16 +416,16 @@ static int part_case(uint32_t side) {
 
 /* The parts in turn, one behind another, are the whole listing. */
 static int joined_case(uint32_t side) {
-    static uint8_t whole[21 * (64 * 64 * 64 + 1)], joined[2 * sizeof whole];
+    static uint8_t whole[GIDZKHALU_PART_BYTES(64 * 64 * 64)], joined[2 * sizeof whole];
     size_t len = (size_t)side * side * side, at = 0;
     int64_t all, bytes;
     lend_cube(&cube, len);
-    if (!compare_part(side, 0, len, 21 * (len + 1), &all))
+    if (!compare_part(side, 0, len, GIDZKHALU_PART_BYTES(len), &all))
         return 0;
     memcpy(whole, text.got, (size_t)all);
     for (size_t first = 0, count; first < len; first += count, at += (size_t)bytes) {
         count = 1 + below(one_in(2) ? side : (uint32_t)len);
-        if (!compare_part(side, first, count, 21 * (count + 1), &bytes))
+        if (!compare_part(side, first, count, GIDZKHALU_PART_BYTES(count), &bytes))
             return 0;
         memcpy(joined + at, text.got, (size_t)bytes);
     }
@@ -447,7 +449,7 @@ static int large_listing(void) {
 
 /* Totals: of a cube, 256 lines at most */
 
-enum { TOTALS_LINE = 51, TOTALS_TEXT = 256 * TOTALS_LINE };
+enum { TOTALS_LINE = GIDZKHALU_TOTALS_LINE_BYTES, TOTALS_TEXT = GIDZKHALU_TOTALS_BYTES };
 
 /* Of an accepted call; its lines are in text.want. */
 static void meet_totals(uint32_t side, size_t bytes) {
@@ -469,7 +471,7 @@ static int compare_totals(uint32_t side, const struct lent *of, size_t cube_len,
     int64_t want, got;
     lend(&text, text_len);
     want = reference_totals(side, of->want, cube_len, text.want, text.len, &order);
-    got = gidzkhalu_totals(side, of->got, cube_len, text.got, text.len);
+    got = gidzkhalu_totals(side, passed(of, NULL_CUBE), cube_len, passed(&text, NULL_TEXT), text.len);
     count_order(running.counts, &order);
     meet(TOTALS_SHORT, want == -22 && text.len + 1 == TOTALS_TEXT);
     if (want >= 0)
@@ -512,15 +514,31 @@ static int sheet_totals(void) {
     return compare_totals(side, &buffer, (size_t)side * side * side, totals_text_length(0));
 }
 
+/* Among them 99999 and the next. */
+static uint32_t random_printed(uint32_t usual) {
+    switch (below(8)) {
+    case 0:
+        return random_word();
+    case 1:
+        return 99999 + below(2);
+    case 2:
+    case 3:
+        return below(100000);
+    default:
+        return below(usual);
+    }
+}
+
 static int refusal_line(void) {
     struct order order = {0};
-    uint32_t number = one_in(2) ? below(100) : one_in(2) ? below(100000) : random_word();
-    uint32_t line = one_in(2) ? below(203) : one_in(2) ? below(100000) : random_word();
+    uint32_t number = random_printed(100), line = random_printed(203);
     int64_t want, got;
     lend(&text, one_in(4) ? 17 - (one_in(2) ? 0 : below(18)) : 18 + below(8));
     want = reference_refusal_line(number, line, text.want, text.len, &order);
-    got = gidzkhalu_refusal_line(number, line, text.got, text.len);
+    got = gidzkhalu_refusal_line(number, line, passed(&text, NULL_TEXT), text.len);
     count_order(running.counts, &order);
+    meet(LINE_99999, want == 18 && (number == 99999 || line == 99999));
+    meet(LINE_100000, want == -54 && (number == 100000 || line == 100000));
     if (want == got && same(&text))
         return 1;
     print_failure(want, got);
@@ -717,11 +735,11 @@ static int known_print(const char *sheet, int of_totals, const char *printed) {
     struct order order = {0}, listed = {0};
     int64_t want, got;
     lend_bytes(&input, (const uint8_t *)sheet, strlen(sheet));
-    lend(&buffer, 64000);
-    lend(&detail, 1);
+    lend(&buffer, GIDZKHALU_SHEET_BUFFER_BYTES);
+    lend(&detail, GIDZKHALU_DETAIL_BYTES);
     lend(&text, TOTALS_TEXT);
-    want = reference_draw_sheet(input.want, input.len, buffer.want, 64000, detail.want, 1, &order);
-    got = gidzkhalu_draw_sheet(input.got, input.len, buffer.got, 64000, detail.got, 1);
+    want = reference_draw_sheet(input.want, input.len, buffer.want, buffer.len, detail.want, detail.len, &order);
+    got = gidzkhalu_draw_sheet(input.got, input.len, buffer.got, buffer.len, detail.got, detail.len);
     if (want != got || !same(&buffer) || !same(&detail))
         return known_failed("of sheets");
     if (want < 0) {
@@ -771,7 +789,7 @@ static const int CHECK_ORDER[] = {51, 11, 13, 14, 15, 0}, LIST_ORDER[] = {51, 11
                  HALF_ORDER[] = {53, 52, 31, 33, 31, 32, 31, 33, 31, 32, 0},
                  SIDE_LINE_ORDER[] = {52, 21, 41, 42, 11, 43, 0},
                  CURVE_LINE_ORDER[] = {52, 21, 44, 41, 42, 12, 13, 14, 15, 0}, TEXT_ORDER[] = {11, 21, 22, 0},
-                 LINE_ORDER[] = {22, 0}, RECORD_ORDER[] = {51, 0}, OUT_ORDER[] = {53, 52, 0};
+                 LINE_ORDER[] = {54, 22, 0}, RECORD_ORDER[] = {51, 0}, OUT_ORDER[] = {53, 52, 0};
 
 static const struct kind {
     const char *name;

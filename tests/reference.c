@@ -608,7 +608,7 @@ static int cube_order(uint32_t side, size_t cube_len, size_t text_len, wide leas
     return order_first(order);
 }
 
-/* A number in 5 columns, of a longer one its last five digits. */
+/* A number in 5 columns. */
 static void put_number(uint8_t *text, uint32_t number) {
     for (int k = 4; k >= 0; k--) {
         text[k] = k < 4 && number == 0 ? ' ' : (uint8_t)('0' + number % 10);
@@ -683,9 +683,10 @@ int64_t reference_totals(uint32_t side, const uint8_t *cube, size_t cube_len, ui
 }
 
 int64_t reference_refusal_line(uint32_t number, uint32_t line, uint8_t *text, size_t text_len, struct order *order) {
+    order_add(order, 54, number > 99999 || line > 99999);
     order_add(order, 22, text_len < 18);
     if (order_first(order) != 0)
-        return -22;
+        return -order_first(order);
     memcpy(text, "REFUSED", 7);
     put_number(text + 7, number);
     put_number(text + 12, line);

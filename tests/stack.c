@@ -145,7 +145,7 @@ enum function {
     FUNCTIONS
 };
 
-enum { NUMBERS = 54, WORDS = 100 };
+enum { NUMBERS = 55, WORDS = 100 };
 
 static struct figure {
     const char *name;
@@ -165,7 +165,7 @@ static struct figure {
     {"draw_sheet", {0, 52, 21, 41, 42, 11, 43, 44, 12, 13, 14, 15}, -1, 0, 0, {0}, 0, ""},
     {"list_part", {0, 11, 21, 22}, -1, 0, 0, {0}, 0, ""},
     {"totals", {0, 11, 21, 22}, -1, 0, 0, {0}, 0, ""},
-    {"refusal_line", {0, 22}, -1, 0, 0, {0}, 0, ""},
+    {"refusal_line", {0, 54, 22}, -1, 0, 0, {0}, 0, ""},
 };
 
 static uint64_t calls_made;
@@ -219,7 +219,7 @@ static int calibrated(void) {
 
 /* Curves and patches */
 
-enum { CELLS = 64 * 64 * 64, GRID = 300001 };
+enum { CELLS = GIDZKHALU_CUBE_BYTES(GIDZKHALU_SIDE_MOST), GRID = 300001 };
 
 static uint8_t grid[GRID]; /* the grid or the list */
 
@@ -310,7 +310,7 @@ static void chosen_object(struct object_call *c, uint8_t *points, enum pattern p
         points[k] = patterned(pattern, k / 3, count, c->side);
     c->lent = grid;
     if (c->service == LIST)
-        c->lent_len = 3 * ((size_t)(c->n > 512 ? 512 : c->n) + 1);
+        c->lent_len = GIDZKHALU_LIST_BYTES(c->n > 512 ? 512 : c->n);
     else
         c->lent_len = c->side > 64 ? CELLS : (size_t)c->side * c->side * c->side;
     measure_with_faults(c);
@@ -412,7 +412,7 @@ static void chosen_halves(uint32_t kind, uint32_t kind2, size_t place) {
         for (size_t w = 0; w < SIZE(REALS); w++) {
             struct swatch first = chosen_swatch(kind, place, REALS[v]);
             struct swatch second = chosen_swatch(kind2, place, REALS[w]);
-            measure_half_way(&first, &second, 12);
+            measure_half_way(&first, &second, GIDZKHALU_CHANNELS_BYTES);
             measure_half_way(&first, &second, LENGTHS[v % SIZE(LENGTHS)]);
         }
 }
@@ -432,7 +432,7 @@ static void random_to_cell(void) {
     random_swatch(&s, below(KINDS_OF_SWATCH), side);
     if (one_in(16))
         s.kind = bad_kind();
-    measure_to_cell(side, &s, random_length(3));
+    measure_to_cell(side, &s, random_length(GIDZKHALU_CELL_BYTES));
 }
 
 static void random_half_way(void) {
@@ -443,12 +443,12 @@ static void random_half_way(void) {
         first.kind = bad_kind();
     if (one_in(16))
         second.kind = bad_kind();
-    measure_half_way(&first, &second, random_length(12));
+    measure_half_way(&first, &second, random_length(GIDZKHALU_CHANNELS_BYTES));
 }
 
 /* Sheets: line 1 is 6 bytes, each curve line 71 */
 
-enum { BUFFER = 64000, SIDE_LINE = 6, LINE = 71, LINES = 200 };
+enum { BUFFER = GIDZKHALU_SHEET_BUFFER_BYTES, SIDE_LINE = 6, LINE = 71, LINES = GIDZKHALU_SHEET_CURVES_MOST };
 
 static uint8_t input[SHEET_ROOM], buffer[BUFFER + 1];
 
@@ -543,9 +543,9 @@ static void random_draw_sheet(void) {
 
 /* Listings and totals */
 
-enum { TOTALS_TEXT = 256 * 51 };
+enum { TOTALS_TEXT = GIDZKHALU_TOTALS_BYTES };
 
-static uint8_t text[21 * (CELLS + 2)];
+static uint8_t text[GIDZKHALU_PART_BYTES(CELLS + 1)];
 
 /* Each side with unmarked cells, with the least and the greatest mark, with other ends, and with all marks in turn. */
 static void chosen_cubes(void (*measure_cube)(uint32_t side, size_t len)) {
@@ -586,7 +586,7 @@ static void chosen_parts_of(uint32_t side, size_t len) {
     size_t firsts[] = {0, 1, len - 1, len, SIZE_MAX}, counts[] = {0, 1, len, len + 1, SIZE_MAX};
     for (size_t f = 0; f < SIZE(firsts); f++)
         for (size_t k = 0; k < SIZE(counts); k++) {
-            size_t enough = counts[k] > CELLS ? sizeof text : 21 * (counts[k] + 1);
+            size_t enough = counts[k] > CELLS ? sizeof text : GIDZKHALU_PART_BYTES(counts[k]);
             measure_part(side, len, firsts[f], counts[k], enough);
             measure_part(side, len, firsts[f], counts[k], enough - 1);
             measure_part(side, len, firsts[f], counts[k], 0);
@@ -599,7 +599,7 @@ static void chosen_parts(void) { chosen_cubes(chosen_parts_of); }
 static void random_list_part(void) {
     uint32_t side;
     size_t len = random_cube_of(&side), first = one_in(3) ? 0 : below((uint32_t)len + 2);
-    size_t count = one_in(3) ? len : below((uint32_t)len + 1), enough = 21 * (count + 1);
+    size_t count = one_in(3) ? len : below((uint32_t)len + 1), enough = GIDZKHALU_PART_BYTES(count);
     measure_part(side, len, first, count, one_in(8) ? below((uint32_t)enough) : enough);
 }
 

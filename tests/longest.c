@@ -1,0 +1,318 @@
+/* Makes, for one function of the C interface, the calls that take longest: those at its limits, each with several inputs,
+   of which tests/longest.sh takes the one with the most instructions. Usage: longest FUNCTION
+
+   Each call is made once and printed as a line: its answer and its input. What takes longest is said at each function.
+   The functions follow one path for all samples, cells and lines but for a few branches, and where these add up, their
+   inputs are all combinations of the ways in which a branch can go most often. */
+#include "gidzkhalu.h"
+
+#include <inttypes.h>
+#include <stdio.h>
+#include <string.h>
+
+/* The memset that the library calls: a name that is left out of the count. The function counted executes four
+   instructions and a memset of 100 bytes, by which the count is tried. */
+void counted(void);
+uint8_t filled[100];
+
+__asm__(".text\n"
+        ".globl counted, memset\n"
+        ".type counted, @function\n"
+        ".type memset, @function\n"
+        "counted:\n"
+        "    leaq filled(%rip), %rdi\n"
+        "    movl $100, %edx\n"
+        "    call memset\n"
+        "    ret\n"
+        ".size counted, . - counted\n"
+        "memset:\n"
+        "    movq %rdi, %r8\n"
+        "    movl %esi, %eax\n"
+        "    movq %rdx, %rcx\n"
+        "    rep stosb\n"
+        "    movq %r8, %rax\n"
+        "    ret\n"
+        ".size memset, . - memset\n");
+
+enum { SIDE = GIDZKHALU_SIDE_MOST, CELLS = SIDE * SIDE * SIDE };
+
+static uint8_t grid[CELLS], text[GIDZKHALU_PART_BYTES(CELLS)];
+
+#define SIZE(table) (sizeof(table) / sizeof *(table))
+
+/* Curves: the most steps at the largest side, so that no step is long and all samples are walked. A sample takes longer
+   where its cell moves, down more than up. Of all curves of one axis FALLS has the most moves down; UP_AND_DOWN and
+   DOWN_AND_UP have the most where a move down takes twice as much more as a move up. */
+enum pattern { FALLS, UP_AND_DOWN, DOWN_AND_UP, RISES, STAYS, PATTERNS };
+
+static const char *const PATTERN[PATTERNS] = {"falls", "up and down", "down and up", "rises", "stays"};
+
+/* The coordinate of point k of four. */
+static uint8_t patterned(enum pattern pattern, int k, uint8_t last) {
+    const uint8_t points[PATTERNS][4] = {{last, 0, 0, 0},
+                                         {2, last, last, 0},
+                                         {last, 0, 0, (uint8_t)(last - 2)},
+                                         {0, last, last, last},
+                                         {last, last, last, last}};
+    return points[pattern][k];
+}
+
+struct axes {
+    enum pattern x, y, z;
+};
+
+static struct axes axes_of(int number) {
+    struct axes axes = {(enum pattern)(number % PATTERNS), (enum pattern)(number / PATTERNS % PATTERNS),
+                        (enum pattern)(number / PATTERNS / PATTERNS)};
+    return axes;
+}
+
+enum { COMBINATIONS = PATTERNS * PATTERNS * PATTERNS };
+
+static void put_point(uint8_t *point, struct axes axes, int k, uint8_t last) {
+    point[0] = patterned(axes.x, k, last);
+    point[1] = patterned(axes.y, k, last);
+    point[2] = patterned(axes.z, k, last);
+}
+
+static void print_axes(struct axes axes) {
+    printf("x %s, y %s, z %s\n", PATTERN[axes.x], PATTERN[axes.y], PATTERN[axes.z]);
+}
+
+/* service: 0 check, 1 list, 2 draw. */
+static void curve(int service, uint32_t steps, struct axes axes) {
+    uint8_t points[GIDZKHALU_CURVE_BYTES];
+    int64_t answer;
+    for (int k = 0; k < 4; k++)
+        put_point(points + 3 * k, axes, k, SIDE - 1);
+    if (service == 0)
+        answer = gidzkhalu_check_curve(SIDE, points, sizeof points, steps);
+    else if (service == 1)
+        answer = gidzkhalu_list_curve(SIDE, points, sizeof points, steps, text, GIDZKHALU_LIST_BYTES(steps));
+    else
+        answer = gidzkhalu_draw_curve(SIDE, points, sizeof points, steps, 255, grid, sizeof grid);
+    printf("%" PRId64 ": side %d, %" PRIu32 " steps, ", answer, SIDE, steps);
+    print_axes(axes);
+}
+
+/* The last curve has the latest long step that there is: the last of 187, on z. */
+static void curves(int service) {
+    struct axes late = {STAYS, STAYS, RISES};
+    for (int number = 0; number < COMBINATIONS; number++)
+        curve(service, GIDZKHALU_CURVE_STEPS_MOST, axes_of(number));
+    curve(service, 187, late);
+}
+
+static void check_curves(void) { curves(0); }
+static void list_curves(void) { curves(1); }
+static void draw_curves(void) { curves(2); }
+
+/* Patches: as curves, 256 x 256 steps, every row the same along t. Along u there is one walk, through the rows' first
+   cells, so moves there count for little: the last patches have them, and stay along t. */
+static void patch(int draws, int along_u, struct axes axes) {
+    uint8_t points[GIDZKHALU_PATCH_BYTES];
+    uint32_t most = GIDZKHALU_PATCH_STEPS_MOST;
+    int64_t answer;
+    for (int k = 0; k < 16; k++)
+        put_point(points + 3 * k, axes, along_u ? k % 4 : k / 4, SIDE - 1);
+    if (draws)
+        answer = gidzkhalu_draw_patch(SIDE, points, sizeof points, most, most, 255, grid, sizeof grid);
+    else
+        answer = gidzkhalu_check_patch(SIDE, points, sizeof points, most, most);
+    printf("%" PRId64 ": side %d, %" PRIu32 " x %" PRIu32 " steps, along %s ", answer, SIDE, most, most,
+           along_u ? "u" : "t");
+    print_axes(axes);
+}
+
+/* A check has no cells, and its step test takes all samples of an accepted patch alike. */
+static void check_patches(void) {
+    for (int pattern = 0; pattern < PATTERNS; pattern++) {
+        struct axes axes = {(enum pattern)pattern, (enum pattern)pattern, (enum pattern)pattern};
+        patch(0, 0, axes);
+        patch(0, 1, axes);
+    }
+}
+
+static void draw_patches(void) {
+    for (int number = 0; number < COMBINATIONS; number++) {
+        struct axes axes = axes_of(number);
+        if (axes.x != STAYS && axes.y != STAYS && axes.z != STAYS)
+            patch(1, 0, axes);
+    }
+    for (int pattern = 0; pattern < PATTERNS; pattern++) {
+        struct axes axes = {(enum pattern)pattern, (enum pattern)pattern, (enum pattern)pattern};
+        patch(1, 1, axes);
+    }
+}
+
+/* Swatches: no loops. A hue is compared with the whole numbers in turn, and each row of channels has a path of its own; a
+   colour and a grey are shorter, and so is what is refused, the last value at the latest. */
+static const struct swatch {
+    uint32_t kind;
+    float a, b, c;
+} SWATCHES[] = {
+    {GIDZKHALU_HUE, 0.5f, 0.5f, 0.5f},  {GIDZKHALU_HUE, 1.5f, 0.5f, 0.5f},    {GIDZKHALU_HUE, 2.5f, 0.5f, 0.5f},
+    {GIDZKHALU_HUE, 3.5f, 0.5f, 0.5f},  {GIDZKHALU_HUE, 4.5f, 0.5f, 0.5f},    {GIDZKHALU_HUE, 5.5f, 0.5f, 0.5f},
+    {GIDZKHALU_HUE, 0.5f, 0.5f, 1e-3f}, {GIDZKHALU_HUE, 5.5f, 0.5f, 2.0f},    {GIDZKHALU_HUE, 7.0f, 0.5f, 0.5f},
+    {GIDZKHALU_GREY, 0.5f, 0.5f, 0.5f}, {GIDZKHALU_COLOUR, 0.5f, 0.5f, 0.5f}, {GIDZKHALU_COLOUR, 0.5f, 0.5f, 2.0f}};
+
+static void print_swatch(const struct swatch *s) {
+    printf(" kind %" PRIu32 ", %g %g %g", s->kind, (double)s->a, (double)s->b, (double)s->c);
+}
+
+static void cells(void) {
+    for (size_t k = 0; k < SIZE(SWATCHES); k++) {
+        const struct swatch *s = &SWATCHES[k];
+        printf("%" PRId64 ": side %d,", gidzkhalu_to_cell(SIDE, s->kind, s->a, s->b, s->c, text, GIDZKHALU_CELL_BYTES),
+               SIDE);
+        print_swatch(s);
+        printf("\n");
+    }
+}
+
+static void half_ways(void) {
+    for (size_t k = 0; k < SIZE(SWATCHES) * SIZE(SWATCHES); k++) {
+        const struct swatch *s = &SWATCHES[k / SIZE(SWATCHES)], *t = &SWATCHES[k % SIZE(SWATCHES)];
+        printf("%" PRId64 ":", gidzkhalu_half_way(s->kind, s->a, s->b, s->c, t->kind, t->a, t->b, t->c, text,
+                                                  GIDZKHALU_CHANNELS_BYTES));
+        print_swatch(s);
+        printf(" and");
+        print_swatch(t);
+        printf("\n");
+    }
+}
+
+/* Sheets: 200 lines of 512 steps at side 40, each read, checked and drawn. A field takes longer with more digits, so the
+   least coordinate is 0 or 10. A sheet that is refused draws nothing: the last ones are refused for the bytes after their
+   200 lines, one or many. */
+enum { SIDE_LINE = 6, LINE = 71, LINES = GIDZKHALU_SHEET_CURVES_MOST, WHOLE = SIDE_LINE + LINES * LINE, TAIL = 100000 };
+
+static uint8_t sheet[WHOLE + TAIL], buffer[GIDZKHALU_SHEET_BUFFER_BYTES];
+
+static void put_field(uint8_t *to, unsigned number) {
+    char field[16];
+    snprintf(field, sizeof field, "%5u", number);
+    memcpy(to, field, 5);
+}
+
+static void put_line(uint8_t *line, struct axes axes, uint8_t least) {
+    put_field(line, 255);
+    put_field(line + 5, GIDZKHALU_CURVE_STEPS_MOST);
+    for (int k = 0; k < 4; k++) {
+        uint8_t point[3];
+        put_point(point, axes, k, GIDZKHALU_SHEET_SIDE_MOST - 1);
+        for (int axis = 0; axis < 3; axis++)
+            put_field(line + 10 + 15 * k + 5 * axis, point[axis] < least ? least : point[axis]);
+    }
+    line[LINE - 1] = '\n';
+}
+
+static void sheet_of(struct axes axes, uint8_t least, size_t more) {
+    uint8_t detail[GIDZKHALU_DETAIL_BYTES];
+    int64_t answer;
+    put_field(sheet, GIDZKHALU_SHEET_SIDE_MOST);
+    sheet[SIDE_LINE - 1] = '\n';
+    for (int line = 0; line < LINES; line++)
+        put_line(sheet + SIDE_LINE + LINE * line, axes, least);
+    answer = gidzkhalu_draw_sheet(sheet, WHOLE + more, buffer, sizeof buffer, detail, sizeof detail);
+    printf("%" PRId64 ": side %d, %d lines of %d steps, coordinates from %d, ", answer, GIDZKHALU_SHEET_SIDE_MOST, LINES,
+           GIDZKHALU_CURVE_STEPS_MOST, least);
+    print_axes(axes);
+}
+
+static void sheets(void) {
+    struct axes falls = {FALLS, FALLS, FALLS};
+    for (int number = 0; number < COMBINATIONS; number++) {
+        struct axes axes = axes_of(number);
+        if (axes.x == axes.y && axes.x != STAYS && axes.z != STAYS) {
+            sheet_of(axes, 0, 0);
+            sheet_of(axes, 10, 0);
+        }
+    }
+    sheet_of(falls, 0, 1);
+    sheet_of(falls, 0, TAIL);
+}
+
+/* Listings: the whole cube of side 64 with every cell marked; a number takes longer with more digits. */
+static void parts(void) {
+    static const uint8_t marks[] = {0, 1, 9, 10, 99, 100, 255};
+    for (size_t k = 0; k < SIZE(marks); k++)
+        for (size_t first = 0; first < 2; first++) {
+            for (size_t p = 0; p < CELLS; p++)
+                grid[p] = marks[k];
+            printf("%" PRId64 ": side %d, from byte %zu, each cell marked %d\n",
+                   gidzkhalu_list_part(SIDE, grid, CELLS, first, CELLS, text, sizeof text), SIDE, first, marks[k]);
+        }
+}
+
+/* Totals: side 64, every mark held, so that there are 256 lines; a number takes longer with more digits. Each mark has
+   1024 cells, or 1000 and two or three marks have the rest; or one mark has all cells. Where the marks in turn are moved
+   by one from 256 cells to the next, no mark has small coordinates alone. */
+static uint8_t mark_of(int kind, size_t p) {
+    size_t moved = p % 256 + p / 256;
+    switch (kind) {
+    case 0:
+        return (uint8_t)p;
+    case 1:
+        return (uint8_t)(p / 1024);
+    case 2:
+        return (uint8_t)moved;
+    case 3:
+        return (uint8_t)(p < 256 * 1000 ? moved : p % 2);
+    case 4:
+        return (uint8_t)(p < 256 * 1000 ? moved : p % 3);
+    default:
+        return 255;
+    }
+}
+
+static void totals(void) {
+    static const char *const kinds[] = {"in turn", "in blocks", "moved", "moved, then two", "moved, then three", "255"};
+    for (int kind = 0; kind < (int)SIZE(kinds); kind++) {
+        for (size_t p = 0; p < CELLS; p++)
+            grid[p] = mark_of(kind, p);
+        printf("%" PRId64 ": side %d, marks %s\n",
+               gidzkhalu_totals(SIDE, grid, CELLS, text, GIDZKHALU_TOTALS_BYTES), SIDE, kinds[kind]);
+    }
+}
+
+/* Refusal lines: a number takes longer with more digits. */
+static void refusal_lines(void) {
+    static const uint32_t numbers[] = {0, 9, 10, 99, 100, 999, 1000, 9999, 10000, GIDZKHALU_REFUSAL_NUMBER_MOST};
+    for (size_t k = 0; k < SIZE(numbers) * SIZE(numbers); k++) {
+        uint32_t number = numbers[k / SIZE(numbers)], line = numbers[k % SIZE(numbers)];
+        printf("%" PRId64 ": number %" PRIu32 ", line %" PRIu32 "\n",
+               gidzkhalu_refusal_line(number, line, text, GIDZKHALU_REFUSAL_LINE_BYTES), number, line);
+    }
+}
+
+static void known(void) {
+    counted();
+    printf("a known count\n");
+}
+
+static const struct {
+    const char *name;
+    void (*run)(void);
+} FUNCTIONS[] = {{"counted", known},
+                 {"gidzkhalu_check_curve", check_curves},
+                 {"gidzkhalu_list_curve", list_curves},
+                 {"gidzkhalu_draw_curve", draw_curves},
+                 {"gidzkhalu_check_patch", check_patches},
+                 {"gidzkhalu_draw_patch", draw_patches},
+                 {"gidzkhalu_to_cell", cells},
+                 {"gidzkhalu_half_way", half_ways},
+                 {"gidzkhalu_draw_sheet", sheets},
+                 {"gidzkhalu_list_part", parts},
+                 {"gidzkhalu_totals", totals},
+                 {"gidzkhalu_refusal_line", refusal_lines}};
+
+int main(int argc, char **argv) {
+    for (size_t k = 0; argc == 2 && k < SIZE(FUNCTIONS); k++)
+        if (strcmp(argv[1], FUNCTIONS[k].name) == 0) {
+            FUNCTIONS[k].run();
+            return 0;
+        }
+    fprintf(stderr, "usage: longest FUNCTION\n");
+    return 2;
+}
