@@ -7,7 +7,7 @@ use crate::answer::holding;
 use cases::record::number;
 use curve::Curve;
 use patch::Patch;
-use scan::answer::Verdict;
+use decide::Verdict;
 
 // What a drawing or a listing answered, and what the bytes lent to it hold.
 pub(crate) fn called(answer: scan::answer::Answer, lent: &[u8]) -> Answer {

@@ -41,10 +41,15 @@ pub totals-small : (S : ℕ) (cube : List ℕ) → length (totals S cube) < 2 ^ 
 totals-small S cube = omega (arith, length-totals-at-most S cube)
 
 -- So what a call answers is small,
-pub small-written : (v : Verdict) (n : ℕ) (r : Written) → writtenOf r ≡ outcome v n → (v ≡ accepted → n < 2 ^ 32) → SmallWritten r
-small-written accepted n (Bytes k) e h = let l = h refl in let same : k ≡ n = cc in omega arith
-small-written (refused j) n (Bytes k) e h = let z : _≡_ {A = ℕ} 0 1 = cc in absurd (omega arith)
-small-written v n (Refused k) e h = tt
+pub small-written : {v : Verdict} {bytes text after : List ℕ} {r : Written} → Writes v bytes text after r →
+    (v ≡ accepted → length bytes < 2 ^ 32) → SmallWritten r
+small-written {v} {bytes} {r = r} d h = by-answer v r (d .answer) h
+  where
+    by-answer : (v : Verdict) (r : Written) → writtenOf r ≡ outcome v (length bytes) → (v ≡ accepted → length bytes < 2 ^ 32) →
+        SmallWritten r
+    by-answer accepted (Bytes k) e h = let l = h refl in let same : k ≡ length bytes = cc in omega arith
+    by-answer (refused j) (Bytes k) e h = let z : _≡_ {A = ℕ} 0 1 = cc in absurd (omega arith)
+    by-answer v (Refused k) e h = tt
 
 -- and its number a signed answer.
 pub written-signed : {v : Verdict} {bytes text after : List ℕ} {w : Written} {r : ℤ} → Writes v bytes text after w →

@@ -14,7 +14,7 @@ of-written-requires : tie.Need-of-written-requires
 of-written-requires c κs =
     let w = c .before .before .refusal-line in
     let s = c .before .before .before .before .before in
-    small-written _ _ (w .result) (w .ensures .answer) (λ _. omega (arith, length-refusalLine (s .args .number) (s .args .line)))
+    small-written (w .ensures) (λ _. omega (arith, length-refusalLine (s .args .number) (s .args .line)))
 
 same-length : tie.Need-same-length
 same-length c = search needs

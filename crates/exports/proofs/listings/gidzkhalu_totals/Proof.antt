@@ -11,7 +11,7 @@ write-totals-requires c κs = search needs
 of-written-requires : tie.Need-of-written-requires
 of-written-requires c κs =
     let w = c .before .before .write-totals in
-    small-written _ _ (w .result) (w .ensures .answer) (λ _. totals-small _ _)
+    small-written (w .ensures) (λ _. totals-small _ _)
 
 same-length : tie.Need-same-length
 same-length c = search needs
