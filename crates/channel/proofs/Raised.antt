@@ -47,13 +47,13 @@ use Rattle.channel.proofs.Owns.{owns-unique}
 pub factor-le : (S : ℕ) → S ≤ 64 → S - 1 ≤ 63
 factor-le S h = omega arith
 
--- A value of which 63 times is at most a half is in cell 0 at every side.
+-- A value n / d of which 63 times is at most a half is in cell 0 at every side.
 dark-owns : (n d S : ℕ) → 0 < d → n * 126 ≤ d → S ≤ 64 → Owns 0 (n * (S - 1)) d
 dark-owns n d S D h g =
     let q : n * (S - 1) ≤ n * 63 = mul-le-mul-left n (factor-le S g) in
     record { above = omega arith; upTo = omega arith }
 
--- So is a value up to it.
+-- That holds of every value up to one of which it holds.
 dark-below : (n d p q : ℕ) → 0 < q → n * q ≤ p * d → p * 126 ≤ q → n * 126 ≤ d
 dark-below n d p q Q l h =
     let a : p * 126 * d ≤ q * d = mul-le-mul-right d h in

@@ -1,5 +1,5 @@
-// Channels of a swatch, one by one: the refusals of each, its coordinate, and the value half-way to another. No function is
-// open to callers: what is `pub` is so for the crates above.
+// Channels of a swatch, one by one: the refusals of each, its coordinate, and the value half-way to another.
+// No function is open to callers: what is `pub` is so for the crates above.
 ghost use mathlib.Core.Path.{_≡_};
 ghost use mathlib.Core.Bool.{false};
 ghost use Prim.Native.Nat.{_≤_};

@@ -1,5 +1,5 @@
-// Hue, saturation and value, as a colour desk speaks: the refusals of a hue, and the channels that the three stand for. No
-// function is open to callers: what is `pub` is so for the crates above.
+// Hue, saturation and value, as a colour desk speaks: the refusals of a hue, and the channels that the three stand for.
+// No function is open to callers: what is `pub` is so for the crates above.
 ghost use mathlib.Core.Path.{_≡_};
 ghost use mathlib.Core.Bool.{false};
 ghost use lib.Dec.{T};
