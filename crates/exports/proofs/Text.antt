@@ -4,10 +4,13 @@ use mathlib.Core.List.{List}
 use Prim.Native.Nat.{ℕ, _^_, _<_}
 use native.Mathlib.Nat.{mul-le-mul}
 use native.Mathlib.Omega.{arith}
+use lib.Dec.{lit<}
 use lib.IntN.{ℤ}
 use lib.ListN.{length, take, drop, length-append, length-take, length-drop}
 use Rattle.decide.specs.Refusal.{Verdict, accepted, refused, outcome, firstThat}
+use Rattle.sheet.specs.Printed.{refusalLine}
 use Rattle.sheet.specs.Part.{part, partOrder}
+use Rattle.sheet.proofs.Printed.{length-refusalLine}
 use Rattle.sheet.proofs.Parts.{length-head-at-most, length-cells-at-most}
 use Rattle.sheet_text.specs.declared.Written.{Written}
 use Rattle.sheet_text.specs.declared.Written.the-variants.{Bytes, Refused}
@@ -39,6 +42,10 @@ part-small S p count textLength cube e =
 -- The totals of a cube have at most 13056.
 pub totals-small : (S : ℕ) (cube : List ℕ) → length (totals S cube) < 2 ^ 32
 totals-small S cube = omega (arith, length-totals-at-most S cube)
+
+-- A refusal line has 18.
+pub line-small : (n k : ℕ) → length (refusalLine n k) < 2 ^ 32
+line-small n k = rw length-refusalLine (lit< tt)
 
 -- So what a call answers is small,
 pub small-written : {v : Verdict} {bytes text after : List ℕ} {r : Written} → Writes v bytes text after r →

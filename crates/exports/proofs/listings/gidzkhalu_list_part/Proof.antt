@@ -11,8 +11,7 @@ list-part-requires c κs = search needs
 of-written-requires : tie.Need-of-written-requires
 of-written-requires c κs =
     let w = c .before .before .list-part in
-    let s = c .before .before .before .before .before .before in
-    small-written (w .ensures) (part-small (s .args .side) (s .args .first) (s .args .count) _ (s .args .cube .now))
+    small-written (w .ensures) (part-small _ _ _ _ _)
 
 same-length : tie.Need-same-length
 same-length c = search needs

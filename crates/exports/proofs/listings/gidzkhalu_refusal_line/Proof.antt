@@ -1,9 +1,7 @@
 -- `gidzkhalu_refusal_line` meets its contract: the call, with its number signed.
 use borrow.Author.Needs.{needs}
-use native.Mathlib.Omega.{arith}
-use Rattle.sheet.proofs.Printed.{length-refusalLine}
 use Rattle.exports.proofs.Small.{reads}
-use Rattle.exports.proofs.Text.{small-written, written-signed}
+use Rattle.exports.proofs.Text.{line-small, small-written, written-signed}
 use Rattle.exports.proofs.listings.gidzkhalu_refusal_line.Statement.{statement}
 use Rattle.exports.proofs.listings.gidzkhalu_refusal_line.Tie as tie
 
@@ -13,8 +11,7 @@ refusal-line-requires c κs = search needs
 of-written-requires : tie.Need-of-written-requires
 of-written-requires c κs =
     let w = c .before .before .refusal-line in
-    let s = c .before .before .before .before .before in
-    small-written (w .ensures) (λ _. omega (arith, length-refusalLine (s .args .number) (s .args .line)))
+    small-written (w .ensures) (λ _. line-small _ _)
 
 same-length : tie.Need-same-length
 same-length c = search needs
