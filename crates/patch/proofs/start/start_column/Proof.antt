@@ -2,8 +2,8 @@
 use borrow.Author.Needs.{needs}
 use native.Mathlib.Omega.{arith}
 use Rattle.patch.proofs.Along.{column-bytes, in-column}
-use Rattle.patch.proofs.surface.start_column.Statement.{statement}
-use Rattle.patch.proofs.surface.start_column.Tie as tie
+use Rattle.patch.proofs.start.start_column.Statement.{statement}
+use Rattle.patch.proofs.start.start_column.Tie as tie
 
 slice-aggregate-start-column : tie.Need-slice-aggregate-start-column
 slice-aggregate-start-column c = search needs
