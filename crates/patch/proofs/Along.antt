@@ -1,5 +1,5 @@
--- A patch along one axis, by its number: within the limits the machine may start along t and then along u, and go on, and
--- its values are twice the exact ones.
+-- A patch along one axis, by its number: within the limits the machine may start along t and then along u, and go on,
+-- and its values are twice the exact ones.
 use mathlib.Core.Path.{_≡_, sym, _∙_, ap}
 use Prim.Native.Nat.{ℕ, suc, _+_, _*_, _≤_, _<_, _^_, zero-le}
 use native.Mathlib.Nat.{le-trans, mul-le-mul}
@@ -97,7 +97,8 @@ module _ {p : Patch} (l : InLimits p) {a : ℕ} (h : a < 3) where
         Within (2 ^ 60) (delta k (λ q. doubledAlong p a q (suc j)) i -ℤ delta k (λ q. doubledAlong p a q j) i)
     unfolding differencesAt delta
     slope-within k hk =
-        let value = row-delta (pos (p .m)) (columnAlong p a 0) (columnAlong p a 1) (columnAlong p a 2) (columnAlong p a 3) k i in
+        let value =
+        row-delta (pos (p .m)) (columnAlong p a 0) (columnAlong p a 1) (columnAlong p a 2) (columnAlong p a 3) k i in
         rw (← value (suc j), ← value j) (cubic-room k hk .d1)
 
     pub slope-room :

@@ -1,5 +1,5 @@
--- Long steps of a patch on one axis, by its number: the first differences of its surface beyond 2N, along t and along u, and
--- what they have to do with the definition.
+-- Long steps of a patch on one axis, by its number: the first differences of its surface beyond 2N, along t and along
+-- u, and what they have to do with the definition.
 use mathlib.Core.Path.{_≡_, refl, sym, _∙_, ap, ap₂}
 use mathlib.Core.Logic.{⊎-elim}
 use mathlib.Core.Bool.{Bool, true, false, _||_}
@@ -25,8 +25,8 @@ use Rattle.cubic.proofs.LongStep.{long-far}
 use Rattle.surface.specs.declared.Surface.{Surface}
 use Rattle.surface.specs.Surface.{cubicAt, valueAt, someLong, Searchable}
 use Rattle.surface.proofs.Search.{found, nowhere}
-use Rattle.surface.proofs.Neighbours.{Parameter, along-t, along-u, steps, next-i, next-j, steps-cubic, steps-value, t-cubic}
-use Rattle.surface.proofs.Neighbours.{steps-fit, rows-fit}
+use Rattle.surface.proofs.Neighbours.{Parameter, along-t, along-u, steps, next-i, next-j}
+use Rattle.surface.proofs.Neighbours.{steps-cubic, steps-value, t-cubic, steps-fit, rows-fit}
 use Rattle.patch.specs.declared.Patch.{Patch}
 use Rattle.patch.specs.Patch.{patchOf}
 use Rattle.patch.specs.Machine.{InLimits, doubledAlong, surfaceAlong, longAlong}
@@ -160,7 +160,8 @@ module _ (p : Patch) (a : Axis) where
       seen : {is js : List ℕ} → Neighbours (p .n ∷ p .m ∷ []) is js → T (farApart (scaleOf (patchOf p)) (f is) (f js)) →
           (long p (offset a) along-t || long p (offset a) along-u) ≡ true
       seen (first {i = i} hi (index {i = j} hj no-index)) t = rw (seen-along along-t hi (omega arith) t)
-      seen (later {i = i} hi (first {i = j} hj no-index)) t = or-true (long p (offset a) along-t) (seen-along along-u (omega arith) hj t)
+      seen (later {i = i} hi (first {i = j} hj no-index)) t =
+          or-true (long p (offset a) along-t) (seen-along along-u (omega arith) hj t)
       seen (later hi (later hj none)) t = elim none [ ]
 
       none : (¬ T (tooLong N counts f)) → (w : Parameter) → long p (offset a) w ≡ false
@@ -168,7 +169,12 @@ module _ (p : Patch) (a : Axis) where
           nowhere (differences p (offset a) w) (pos N) (rows p w) (samples p w)
           (λ j hj i hi. difference-far w hi hj ∙
           false-of _ (λ t. n (too-long N counts f .1
-          (record { from = i ∷ j ∷ []; to = next-i w i ∷ next-j w j ∷ []; neighbours = next-neighbour w hi hj; far = t }))))
+          (record {
+            from = i ∷ j ∷ [];
+            to = next-i w i ∷ next-j w j ∷ [];
+            neighbours = next-neighbour w hi hj;
+            far = t;
+          }))))
 
 -- Steps are too long where one of the three axes has a long step.
 pub some-axis-long : (p : Patch) → stepsTooLong (patchOf p) ≡ (longAlong p 0 || longAlong p 1 || longAlong p 2)

@@ -1,5 +1,5 @@
--- The walk through a patch's rows. The walk along u through t = 0 gives each row's first cell and remainder, and the surface
--- beside it the row's differences along t; each row then walks along t.
+-- The walk through a patch's rows. The walk along u through t = 0 gives each row's first cell and remainder, and the
+-- surface beside it the row's differences along t; each row then walks along t.
 use mathlib.Core.Path.{_≡_, refl, _∙_, ap}
 use mathlib.Core.List.{List, [], _∷_, _++_, map, map-append, map-map, append-nil}
 use Prim.Native.Nat.{ℕ, zero, suc, _*_, _≤_, _<_, zero-le}
@@ -99,7 +99,8 @@ module _ (p : Patch) (h : Strides) where
   }
 
 -- The next row's surface on each axis.
-next-surface : (N : ℤ) (h : Strides) (l : Lines) (a : Axis) → lineOf (nextLines N h l) a .surface ≡ nextSurface (lineOf l a .surface)
+next-surface : (N : ℤ) (h : Strides) (l : Lines) (a : Axis) →
+    lineOf (nextLines N h l) a .surface ≡ nextSurface (lineOf l a .surface)
 next-surface N h l x-axis = refl
 next-surface N h l y-axis = refl
 next-surface N h l z-axis = refl
@@ -111,7 +112,8 @@ module _ {S : ℕ} (p : Patch) (l : InLimits p) (d : Drawable S (patchOf p)) whe
   -- A walk in the grid, from what is its own: samples, moves, doubled values and their room.
   grid-walk : {n : ℕ} {σ : ℕ → List ℕ} {P : Axis → ℕ → ℤ} → ((i : ℕ) → i ≤ n → Sample (p .n ∷ p .m ∷ []) (σ i)) →
       ((a : Axis) (i : ℕ) →
-      cellOf (patchOf p) (σ (suc i)) a ≡ move (scaleOf (patchOf p)) (cellOf (patchOf p) (σ i) a) (exact (patchOf p) a (σ (suc i)))) →
+      cellOf (patchOf p) (σ (suc i)) a ≡
+      move (scaleOf (patchOf p)) (cellOf (patchOf p) (σ i) a) (exact (patchOf p) a (σ (suc i)))) →
       ((a : Axis) → Doubles n (λ i. exact (patchOf p) a (σ i)) (P a)) →
       ((a : Axis) (i : ℕ) → i ≤ n → Room (differencesAt (P a) i)) → Walk S (patchOf p) (gridStrides S) n σ P
   grid-walk sample moves doubles room = record {

@@ -99,7 +99,8 @@ nextLines scale h l = record {
   z = nextLine scale (h .z) (l .z);
 }
 
--- The row's first sample on one axis, and on three: the walk's cell and remainder, and the surface's differences along t.
+-- The row's first sample on one axis, and on three: the walk's cell and remainder, and the surface's differences along
+-- t.
 abbrev pub rowLine : Line → machine.Axis
 rowLine l = rowOf (l .walk) (l .surface .d1) (l .surface .d2) (l .surface .d3)
 

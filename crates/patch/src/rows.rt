@@ -124,10 +124,11 @@ pub(crate) fn mark_rows(side: u32, patch: Patch, grid: &mut [u8])
 {
     let h = scan::number::grid_strides(side);
     let scale = crate::start::scale(patch);
+    let mark = patch.mark;
     let mut lines = start_lines(patch, h);
-    scan::mark::mark_row(lines.row(), patch.n, scale, h, patch.mark, grid);
+    scan::mark::mark_row(lines.row(), patch.n, scale, h, mark, grid);
     for j in 0..patch.m {
         lines = lines.next(scale, h);
-        scan::mark::mark_row(lines.row(), patch.n, scale, h, patch.mark, grid);
+        scan::mark::mark_row(lines.row(), patch.n, scale, h, mark, grid);
     }
 }

@@ -10,8 +10,8 @@ use Rattle.cubic.specs.declared.differences.Cubic.{Cubic}
 use Rattle.cubic.specs.Differences.{nextOf, nexts}
 use Rattle.cubic.specs.Room.{Room}
 use Rattle.surface.specs.declared.Surface.{Surface}
-use Rattle.surface.specs.Surface.{rowOf, nextSurface, surfaceAt, cubicAt, valueAt, stepsOf, noCubic, alongT, alongU}
-use Rattle.surface.specs.Surface.{SurfaceRoom}
+use Rattle.surface.specs.Surface.{rowOf, nextSurface, surfaceAt, cubicAt, valueAt}
+use Rattle.surface.specs.Surface.{stepsOf, noCubic, alongT, alongU, SurfaceRoom}
 
 -- A sum less its first part, and a sum of differences.
 sum-less : (v d : ℤ) → (v +ℤ d) -ℤ v ≡ d
@@ -118,7 +118,8 @@ module _ (s : Surface) (i j : ℕ) where
   next-sample along-u = refl
 
   -- At each sample they are the next sample's value and differences along t less this one's.
-  pub steps-cubic : (w : Parameter) → cubicAt (steps w s) i j ≡ lessOf (cubicAt s (next-i w i) (next-j w j)) (cubicAt s i j)
+  pub steps-cubic : (w : Parameter) →
+      cubicAt (steps w s) i j ≡ lessOf (cubicAt s (next-i w i) (next-j w j)) (cubicAt s i j)
   unfolding cubicAt
   steps-cubic w =
       ap (λ r. nexts i (rowOf r)) (rows-steps w s j) ∙ ap (nexts i) (row-steps w (surfaceAt s j)) ∙
@@ -139,7 +140,8 @@ pub steps-fit : {c : Cubic} → Room c → Room (stepsOf c)
 steps-fit r = record { value = r .d1; d1 = r .d2; d2 = r .d3; d3 = within-pos zero-le }
 
 -- Where the next row has room, so has that of the first differences.
-pub rows-fit : (w : Parameter) (s : Surface) (j : ℕ) → SurfaceRoom (surfaceAt s j) → SurfaceRoom (surfaceAt (steps w s) j)
+pub rows-fit : (w : Parameter) (s : Surface) (j : ℕ) → SurfaceRoom (surfaceAt s j) →
+    SurfaceRoom (surfaceAt (steps w s) j)
 rows-fit w s j r = rw (rows-steps w s j) (at w r)
   where
     at : (w : Parameter) {s : Surface} → SurfaceRoom s → SurfaceRoom (steps w s)

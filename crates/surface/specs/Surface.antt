@@ -1,5 +1,5 @@
--- One axis of a surface over two parameters by its differences: four cubics along u, of the value at t = 0 and of its three
--- differences along t.
+-- One axis of a surface over two parameters by its differences: four cubics along u, of the value at t = 0 and of its
+-- three differences along t.
 use mathlib.Core.Bool.{Bool}
 use Prim.Native.Nat.{ℕ, _≤_, _<_, _^_}
 use lib.IntN.{ℤ, pos}

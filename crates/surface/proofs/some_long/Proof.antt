@@ -88,7 +88,8 @@ module _ (c : tie.At-loop Inv-loop μ-loop Inv-search μ-search) where
   N = read (start .args .scale)
 
   -- A value of the row is the surface's.
-  in-row : (k : ℕ) → longOf N (nexts k (rowOf (at .search .rest)) .value) ≡ longOf N (valueAt (start .args .surface) k (at .search .j))
+  in-row : (k : ℕ) →
+      longOf N (nexts k (rowOf (at .search .rest)) .value) ≡ longOf N (valueAt (start .args .surface) k (at .search .j))
   unfolding cubicAt
   in-row k = ap (λ r. longOf N (nexts k (rowOf r) .value)) (at .search .inv .rest-is)
 
@@ -99,7 +100,8 @@ module _ (c : tie.At-loop Inv-loop μ-loop Inv-search μ-search) where
       (start .pre .sample-room (c .loop .i) (at .search .j) (c .loop .inv .within) (at .search .inv .within))
 
   -- What the test answers.
-  tested : {r : Bool} → r ≡ longOf N (read (c .loop .row .value)) → r ≡ longOf N (nexts (c .loop .i) (rowOf (at .search .rest)) .value)
+  tested : {r : Bool} → r ≡ longOf N (read (c .loop .row .value)) →
+      r ≡ longOf N (nexts (c .loop .i) (rowOf (at .search .rest)) .value)
   tested q = q ∙ ap (longOf N) (held (row-room .value) (lit< tt) .same ∙ ap (λ r. r .value) (c .loop .inv .row-is))
 
 is-long-requires : tie.Need-is-long-requires Inv-loop μ-loop Inv-search μ-search
@@ -112,13 +114,16 @@ module _ (c : tie.Else1 Inv-loop μ-loop Inv-search μ-search) where
 
   passed : (k : ℕ) → k < tested-at .loop .i + 1 →
       longOf (N tested-at) (nexts k (rowOf (at tested-at .search .rest)) .value) ≡ false
-  passed = below-more _ _ (tested-at .loop .inv .passed) (sym (tested tested-at (c .before .is-long .ensures)) ∙ c .if1 .left)
+  passed =
+      below-more _ _ (tested-at .loop .inv .passed)
+      (sym (tested tested-at (c .before .is-long .ensures)) ∙ c .if1 .left)
 
 next-requires : tie.Need-next-requires Inv-loop μ-loop Inv-search μ-search
 next-requires c κs = row-room (tested-at (c .before))
 
 -- A further sample.
-before-last : (c : tie.Else2 Inv-loop μ-loop Inv-search μ-search) → let t = tested-at (c .before) in t .loop .i + 1 < start t .args .samples
+before-last : (c : tie.Else2 Inv-loop μ-loop Inv-search μ-search) → let t = tested-at (c .before) in
+    t .loop .i + 1 < start t .args .samples
 before-last c = let t = tested-at (c .before) in omega (arith, t .loop .inv .within, c .if2 .left)
 
 add-i : tie.Need-add-i Inv-loop μ-loop Inv-search μ-search
@@ -180,7 +185,8 @@ returns c =
     let s = start t in
     sym (found (s .args .surface) (s .args .scale) (s .args .rows) (s .args .samples)
     (t .loop .inv .within) (at t .search .inv .within)
-    (rw (toZ-ofZ (s .fits .scale)) at (sym (in-row t (t .loop .i)) ∙ sym (tested t (c .before .is-long .ensures)) ∙ c .if1 .taken)))
+    (rw (toZ-ofZ (s .fits .scale))
+    at (sym (in-row t (t .loop .i)) ∙ sym (tested t (c .before .is-long .ensures)) ∙ c .if1 .taken)))
 
 returns-2 : tie.Need-returns-2 Inv-loop μ-loop Inv-search μ-search
 returns-2 c =

@@ -53,10 +53,10 @@ next-so-far S p {grid₀} {grid} {j = j} s l o e = record {
 }
 
 abbrev Inv-loop : tie.InvT-loop
-Inv-loop side patch grid₀ h scale lines₀ j₀ j-end grid lines j = SoFar side patch grid₀ grid lines j
+Inv-loop side patch grid₀ h scale mark lines₀ j₀ j-end grid lines j = SoFar side patch grid₀ grid lines j
 
 abbrev μ-loop : tie.MeasureT-loop
-μ-loop side patch grid₀ h scale lines₀ j₀ j-end grid lines j = patch .m - j
+μ-loop side patch grid₀ h scale mark lines₀ j₀ j-end grid lines j = patch .m - j
 
 module _ (c : tie.Start Inv-loop μ-loop) where
   abbrev patch : Patch
@@ -92,7 +92,8 @@ start-lines-on : (c : tie.After-start-lines Inv-loop μ-loop) →
     let s = c .before .before .before .before in
     OnRow (patch s) (gridStrides (s .args .side)) 0 (c .start-lines .result)
 start-lines-on c =
-    lines-start (patch (c .before .before .before .before)) (c .before .before .grid-strides .ensures) (c .start-lines .ensures)
+    let s = c .before .before .before .before in
+    lines-start (patch s) (c .before .before .grid-strides .ensures) (c .start-lines .ensures)
 
 row-requires : tie.Need-row-requires Inv-loop μ-loop
 row-requires c κs = tt

@@ -10,7 +10,8 @@ use Rattle.scan.proofs.refusal.is_volume.Statement.{statement}
 use Rattle.scan.proofs.refusal.is_volume.Tie as tie
 
 returns : tie.Need-returns
-returns c = sym (ne-eqb (c .before .args .bytes) (volume (c .before .args .side)) (λ e. omega (arith, cube-grows (c .if1 .taken))))
+returns c =
+    let a = c .before .args in sym (ne-eqb (a .bytes) (volume (a .side)) (λ e. omega (arith, cube-grows (c .if1 .taken))))
 
 mul-result : tie.Need-mul-result
 mul-result c = record { fits = omega (arith, mul-le-mul (c .if1 .left) (c .if1 .left)) }
