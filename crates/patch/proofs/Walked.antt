@@ -1,25 +1,27 @@
--- The walk through a patch's rows. The walk along u through t = 0 gives each row's first cell and remainder, and the cubics
--- along u its differences along t; each row then walks along t.
+-- The walk through a patch's rows. The walk along u through t = 0 gives each row's first cell and remainder, and the
+-- surface beside it the row's differences along t; each row then walks along t.
 use mathlib.Core.Path.{_≡_, refl, _∙_, ap}
 use mathlib.Core.List.{List, [], _∷_, _++_, map, map-append, map-map, append-nil}
-use Prim.Native.Nat.{ℕ, zero, suc, _*_, _≤_, _<_, _^_, zero-le}
-use native.Mathlib.Nat.{le-trans, mul-le-mul}
+use Prim.Native.Nat.{ℕ, zero, suc, _*_, _≤_, _<_, zero-le}
 use native.Mathlib.Omega.{arith}
-use lib.Dec.{lit≤, lit<}
+use lib.Dec.{lit<}
 use lib.IntN.{ℤ, pos}
 use lib.ListN.{length}
-use Rattle.bezier.specs.Exact.{no-index, index, no-corner, first}
+use Rattle.bezier.specs.Exact.{Sample, no-index, index, no-corner, first}
 use Rattle.bezier.proofs.Ends.{corner-value}
 use Rattle.decide.specs.Refusal.{accepted}
-use Rattle.walk.specs.Walk.{walk, cell}
+use Rattle.walk.specs.Walk.{walk, cell, move}
 use Rattle.cube.specs.Cube.{Axis, x-axis, y-axis, z-axis, place}
 use Rattle.drawing.specs.Object.{offset, coordinate, scaleOf, exact, cellOf}
 use Rattle.drawing.specs.Refusals.{Drawable, drawVerdict}
 use Rattle.drawing.specs.Drawing.{row, rows, samples, marked, cells, drawn}
 use Rattle.drawing.proofs.Samples.{rows-append, one-row}
-use Rattle.cubic.specs.Axis.{startOf, rowOf}
-use Rattle.cubic.specs.Differences.{delta, nextOf}
+use Rattle.cubic.specs.Axis.{startOf}
+use Rattle.cubic.specs.Differences.{delta, differencesAt}
+use Rattle.cubic.specs.Room.{Room}
+use Rattle.cubic.specs.Tracks.{Doubles}
 use Rattle.cubic.proofs.Tracks.{start-tracks, row-tracks}
+use Rattle.surface.specs.Surface.{nextSurface}
 use Rattle.scan.specs.declared.walker.Strides.{Strides}
 use Rattle.scan.specs.declared.walker.Walker.{Walker}
 use Rattle.scan.specs.Walker.{axisOf, strideOf, gridStrides, placeOf, walkers, OnGrid}
@@ -29,10 +31,10 @@ use Rattle.scan.proofs.Samples.{row-on-grid, row-places}
 use Rattle.patch.specs.declared.Patch.{Patch}
 use Rattle.patch.specs.declared.rows.Lines.{Lines}
 use Rattle.patch.specs.Patch.{patchOf}
-use Rattle.patch.specs.Machine.{InLimits, columnAlong, doubledAlong, cubicAlong, startLines, lineOf, LinesRoom}
-use Rattle.patch.specs.Machine.{nextLines, rowWalker}
-use Rattle.patch.proofs.Along.{cubic-room, row-room, cubic-next}
-use Rattle.patch.proofs.Search.{patch-scale, row-follows, line-follows}
+use Rattle.patch.specs.Machine.{InLimits, columnAlong, doubledAlong, cubicAlong, surfaceAlong, startLines, lineOf}
+use Rattle.patch.specs.Machine.{LinesRoom, nextLines, rowLine, rowWalker}
+use Rattle.patch.proofs.Along.{scale-small, cubic-room, row-room, surface-room, surface-next}
+use Rattle.patch.proofs.Search.{row-follows, line-follows}
 
 -- The sample of row j at t = 0.
 abbrev first-of : ℕ → List ℕ
@@ -47,37 +49,28 @@ along-u-on l x-axis = refl
 along-u-on l y-axis = refl
 along-u-on l z-axis = refl
 
-row-on : (l : Lines) (a : Axis) →
-    axisOf (rowWalker l) a ≡ rowOf (lineOf l a .walk) (lineOf l a .d1) (lineOf l a .d2) (lineOf l a .d3)
+row-on : (l : Lines) (a : Axis) → axisOf (rowWalker l) a ≡ rowLine (lineOf l a)
 row-on l x-axis = refl
 row-on l y-axis = refl
 row-on l z-axis = refl
 
--- What the lines hold at row j.
+-- What the lines hold at row j: the walk stands at its first sample, and the surface is that of the row.
 pub record OnRow (p : Patch) (h : Strides) (j : ℕ) (l : Lines) : Type 0 where
   pub walk : At (patchOf p) h first-of (λ a. doubledAlong p (offset a) 0) j (along-u l)
-  pub d1 : (a : Axis) → lineOf l a .d1 ≡ cubicAlong p (offset a) 1 j
-  pub d2 : (a : Axis) → lineOf l a .d2 ≡ cubicAlong p (offset a) 2 j
-  pub d3 : (a : Axis) → lineOf l a .d3 ≡ cubicAlong p (offset a) 3 j
+  pub surface : (a : Axis) → lineOf l a .surface ≡ surfaceAlong p (offset a) j
 
 module _ (p : Patch) (h : Strides) where
   -- Row 0 on each axis.
   start-on : (a : Axis) →
-      axisOf (along-u (startLines p h)) a ≡
-      startOf (strideOf h a) (pos (coordinate (p .points) a 0)) (cubicAlong p (offset a) 0 0)
+      lineOf (startLines p h) a ≡
+      record {
+        walk = startOf (strideOf h a) (pos (coordinate (p .points) a 0)) (cubicAlong p (offset a) 0 0);
+        surface = surfaceAlong p (offset a) 0;
+      }
   unfolding coordinate offset
   start-on x-axis = refl
   start-on y-axis = refl
   start-on z-axis = refl
-
-  start-difference : (a : Axis) →
-      (lineOf (startLines p h) a .d1 ≡ cubicAlong p (offset a) 1 0) ×
-      (lineOf (startLines p h) a .d2 ≡ cubicAlong p (offset a) 2 0) ×
-      (lineOf (startLines p h) a .d3 ≡ cubicAlong p (offset a) 3 0)
-  unfolding offset
-  start-difference x-axis = (refl, refl, refl)
-  start-difference y-axis = (refl, refl, refl)
-  start-difference z-axis = (refl, refl, refl)
 
   -- The lines start at row 0.
   pub start-on-row : OnRow p h 0 (startLines p h)
@@ -85,89 +78,68 @@ module _ (p : Patch) (h : Strides) where
   start-on-row = record {
     walk = record {
       on = λ a.
-          rw (start-on a)
+          rw (along-u-on (startLines p h) a, start-on a)
           (start-tracks (coordinate (p .points) a 0) (line-follows p a zero-le)
           (corner-value (coordinate (p .points) a) (first (first no-corner))) refl);
     };
-    d1 = λ a. start-difference a .0;
-    d2 = λ a. start-difference a .1;
-    d3 = λ a. start-difference a .2;
+    surface = λ a. ap (λ l. l .surface) (start-on a);
   }
 
   -- The row starts at its first sample.
   pub row-starts : {j : ℕ} {l : Lines} → OnRow p h j l →
       At (patchOf p) h (along (j ∷ [])) (λ a i. doubledAlong p (offset a) i j) 0 (rowWalker l)
+  unfolding surfaceAlong
   row-starts {j} {l} o = record {
     on = λ a.
+        let s = o .surface a in
         rw (row-on l a)
         (row-tracks (pos (p .m))
         (columnAlong p (offset a) 0) (columnAlong p (offset a) 1) (columnAlong p (offset a) 2) (columnAlong p (offset a) 3)
-        j (rw (along-u-on l a) at (o .walk .on a)) (o .d1 a) (o .d2 a) (o .d3 a));
+        j (rw (along-u-on l a) at (o .walk .on a)) (ap (λ s. s .d1) s) (ap (λ s. s .d2) s) (ap (λ s. s .d3) s));
   }
 
--- The next row's differences on each axis.
-next-difference : (p : Patch) (h : Strides) (N : ℤ) {j : ℕ} {l : Lines} → OnRow p h j l → (a : Axis) →
-    (lineOf (nextLines N h l) a .d1 ≡ cubicAlong p (offset a) 1 (suc j)) ×
-    (lineOf (nextLines N h l) a .d2 ≡ cubicAlong p (offset a) 2 (suc j)) ×
-    (lineOf (nextLines N h l) a .d3 ≡ cubicAlong p (offset a) 3 (suc j))
-next-difference p h N {j} {l} o a =
-    on a
-    (ap nextOf (o .d1 a) ∙ cubic-next p (offset a) 1 j)
-    (ap nextOf (o .d2 a) ∙ cubic-next p (offset a) 2 j)
-    (ap nextOf (o .d3 a) ∙ cubic-next p (offset a) 3 j)
-  where
-    on : (a : Axis) → nextOf (lineOf l a .d1) ≡ cubicAlong p (offset a) 1 (suc j) →
-        nextOf (lineOf l a .d2) ≡ cubicAlong p (offset a) 2 (suc j) →
-        nextOf (lineOf l a .d3) ≡ cubicAlong p (offset a) 3 (suc j) →
-        (lineOf (nextLines N h l) a .d1 ≡ cubicAlong p (offset a) 1 (suc j)) ×
-        (lineOf (nextLines N h l) a .d2 ≡ cubicAlong p (offset a) 2 (suc j)) ×
-        (lineOf (nextLines N h l) a .d3 ≡ cubicAlong p (offset a) 3 (suc j))
-    on x-axis e f g = (e, f, g)
-    on y-axis e f g = (e, f, g)
-    on z-axis e f g = (e, f, g)
+-- The next row's surface on each axis.
+next-surface : (N : ℤ) (h : Strides) (l : Lines) (a : Axis) →
+    lineOf (nextLines N h l) a .surface ≡ nextSurface (lineOf l a .surface)
+next-surface N h l x-axis = refl
+next-surface N h l y-axis = refl
+next-surface N h l z-axis = refl
 
 module _ {S : ℕ} (p : Patch) (l : InLimits p) (d : Drawable S (patchOf p)) where
   abbrev N : ℤ
   N = pos (scaleOf (patchOf p))
 
-  scale-small : scaleOf (patchOf p) ≤ 2 ^ 60
-  scale-small =
-      rw (patch-scale p)
-      (le-trans
-      (mul-le-mul
-      (mul-le-mul (mul-le-mul (l .n-most) (l .n-most)) (l .n-most))
-      (mul-le-mul (mul-le-mul (l .m-most) (l .m-most)) (l .m-most)))
-      (lit≤ tt))
+  -- A walk in the grid, from what is its own: samples, moves, doubled values and their room.
+  grid-walk : {n : ℕ} {σ : ℕ → List ℕ} {P : Axis → ℕ → ℤ} → ((i : ℕ) → i ≤ n → Sample (p .n ∷ p .m ∷ []) (σ i)) →
+      ((a : Axis) (i : ℕ) →
+      cellOf (patchOf p) (σ (suc i)) a ≡
+      move (scaleOf (patchOf p)) (cellOf (patchOf p) (σ i) a) (exact (patchOf p) a (σ (suc i)))) →
+      ((a : Axis) → Doubles n (λ i. exact (patchOf p) a (σ i)) (P a)) →
+      ((a : Axis) (i : ℕ) → i ≤ n → Room (differencesAt (P a) i)) → Walk S (patchOf p) (gridStrides S) n σ P
+  grid-walk sample moves doubles room = record {
+    drawable = d;
+    scale-small = scale-small l;
+    stride = gridStride S;
+    stride-is = grid-stride-is S;
+    stride-small = grid-stride-small (d .side-most);
+    sample = sample;
+    moves = moves;
+    doubles = doubles;
+    room = room;
+  }
 
-  -- The walk along u.
+  -- The walk along u, and a row.
   u-walk : Walk S (patchOf p) (gridStrides S) (p .m) first-of (λ a. doubledAlong p (offset a) 0)
   unfolding cellOf cell walk delta
-  u-walk = record {
-    drawable = d;
-    scale-small = scale-small;
-    stride = gridStride S;
-    stride-is = grid-stride-is S;
-    stride-small = grid-stride-small (d .side-most);
-    sample = λ j hj. index zero-le (index hj no-index);
-    moves = λ a j. refl;
-    doubles = λ a. line-follows p a zero-le;
-    room = λ a j hj. cubic-room l (offset-small a) hj 0 (lit< tt);
-  }
+  u-walk =
+      grid-walk (λ j hj. index zero-le (index hj no-index)) (λ a j. refl) (λ a. line-follows p a zero-le)
+      (λ a j hj. cubic-room l (offset-small a) zero-le hj 0 (lit< tt))
 
-  -- A row.
   t-walk : {j : ℕ} → j ≤ p .m →
       Walk S (patchOf p) (gridStrides S) (p .n) (along (j ∷ [])) (λ a i. doubledAlong p (offset a) i j)
-  t-walk {j} hj = record {
-    drawable = d;
-    scale-small = scale-small;
-    stride = gridStride S;
-    stride-is = grid-stride-is S;
-    stride-small = grid-stride-small (d .side-most);
-    sample = λ i hi. index hi (index hj no-index);
-    moves = row-moves (patchOf p) (j ∷ []);
-    doubles = λ a. row-follows p a hj;
-    room = λ a i hi. row-room l (offset-small a) hj hi;
-  }
+  t-walk {j} hj =
+      grid-walk (λ i hi. index hi (index hj no-index)) (row-moves (patchOf p) (j ∷ [])) (λ a. row-follows p a hj)
+      (λ a i hi. row-room l (offset-small a) hi hj)
 
   module _ {j : ℕ} {lines : Lines} (o : OnRow p (gridStrides S) j lines) where
     -- There is room for the next row.
@@ -175,9 +147,7 @@ module _ {S : ℕ} (p : Patch) (l : InLimits p) (d : Drawable S (patchOf p)) whe
     next-room hj = record {
       on = λ a. record {
         walk = rw (← along-u-on lines a) (at-steps u-walk (omega arith) (o .walk) .on a);
-        d1 = rw (o .d1 a) (cubic-room l (offset-small a) (omega arith) 1 (lit< tt));
-        d2 = rw (o .d2 a) (cubic-room l (offset-small a) (omega arith) 2 (lit< tt));
-        d3 = rw (o .d3 a) (cubic-room l (offset-small a) (omega arith) 3 (lit< tt));
+        surface = rw (o .surface a) (surface-room l (offset-small a) (omega arith));
       };
     }
 
@@ -185,9 +155,8 @@ module _ {S : ℕ} (p : Patch) (l : InLimits p) (d : Drawable S (patchOf p)) whe
     pub next-on-row : j < p .m → OnRow p (gridStrides S) (suc j) (nextLines N (gridStrides S) lines)
     next-on-row hj = record {
       walk = at-next u-walk hj (o .walk);
-      d1 = λ a. next-difference p (gridStrides S) N o a .0;
-      d2 = λ a. next-difference p (gridStrides S) N o a .1;
-      d3 = λ a. next-difference p (gridStrides S) N o a .2;
+      surface = λ a.
+          next-surface N (gridStrides S) lines a ∙ ap nextSurface (o .surface a) ∙ surface-next p (offset a) j;
     }
 
     -- The row's places are bytes of the grid, and those of its samples' cells.

@@ -2,23 +2,26 @@
 use mathlib.Core.Path.{_≡_}
 use mathlib.Core.Bool.{Bool, _||_}
 use Prim.Native.Nat.{ℕ, suc, _+_, _*_, _≤_}
-use lib.IntN.{ℤ, pos, _-ℤ_}
+use lib.IntN.{ℤ, pos}
 use lib.ListN.{length, getD}
-use Rattle.decide.specs.Some.{someBelow}
 use Rattle.cube.specs.Cube.{Axis, x-axis, y-axis, z-axis}
+use Rattle.drawing.specs.Object.{scaleOf}
 use Rattle.cubic.specs.Blend.{column, surface, twice}
 use Rattle.cubic.specs.declared.differences.Cubic.{Cubic}
-use Rattle.cubic.specs.Differences.{delta, along, nextOf}
-use Rattle.cubic.specs.Axis.{startOf, rowOf, stepOf, longOf}
-use Rattle.cubic.specs.Room.{Room, Steps}
+use Rattle.cubic.specs.declared.axis.Axis as machine
+use Rattle.cubic.specs.Differences.{along}
+use Rattle.cubic.specs.Axis.{startOf, rowOf, stepOf}
+use Rattle.cubic.specs.Room.{Steps}
+use Rattle.surface.specs.declared.Surface.{Surface}
+use Rattle.surface.specs.Surface.{nextSurface, alongT, alongU, someLong, SurfaceRoom}
 use Rattle.scan.specs.Column.{Below64}
 use Rattle.scan.specs.declared.walker.Strides.{Strides}
 use Rattle.scan.specs.declared.walker.Walker.{Walker}
 use Rattle.scan.specs.Walker.{strideOf}
 use Rattle.patch.specs.declared.Patch.{Patch}
-use Rattle.patch.specs.declared.surface.Surface.{Surface}
 use Rattle.patch.specs.declared.rows.Line.{Line}
 use Rattle.patch.specs.declared.rows.Lines.{Lines}
+use Rattle.patch.specs.Patch.{patchOf}
 
 -- What must hold before the step test can be asked: neither 13 nor 14 applies, at a side up to 64.
 pub record InLimits (p : Patch) : Type 0 where
@@ -48,7 +51,7 @@ cubicAlong p a k j =
     along (pos (p .m)) (columnAlong p a 0) (columnAlong p a 1) (columnAlong p a 2) (columnAlong p a 3) k 0 j
 
 -- Row j: the four cubics along u.
-abbrev pub surfaceAlong : Patch → (a j : ℕ) → Surface
+unfoldable pub surfaceAlong : Patch → (a j : ℕ) → Surface
 surfaceAlong p a j = record {
   value = cubicAlong p a 0 j;
   d1 = cubicAlong p a 1 j;
@@ -56,46 +59,17 @@ surfaceAlong p a j = record {
   d3 = cubicAlong p a 3 j;
 }
 
--- There is room for the next row.
-pub record SurfaceRoom (s : Surface) : Type 0 where
-  pub value : Room (s .value)
-  pub d1 : Room (s .d1)
-  pub d2 : Room (s .d2)
-  pub d3 : Room (s .d3)
-
-abbrev pub nextSurface : Surface → Surface
-nextSurface s = record {
-  value = nextOf (s .value);
-  d1 = nextOf (s .d1);
-  d2 = nextOf (s .d2);
-  d3 = nextOf (s .d3);
-}
-
--- The scale: n × n × n × m × m × m.
-abbrev pub scaleAlong : Patch → ℕ
-scaleAlong p = p .n * p .n * p .n * (p .m * p .m * p .m)
-
--- The step from sample (i, j) along t is too long, by its difference.
-abbrev pub longT : Patch → (a i j : ℕ) → Bool
-longT p a i j = longOf (pos (scaleAlong p)) (delta 1 (λ q. doubledAlong p a q j) i)
-
--- And along u.
-abbrev pub longU : Patch → (a i j : ℕ) → Bool
-longU p a i j = longOf (pos (scaleAlong p)) (doubledAlong p a i (suc j) -ℤ doubledAlong p a i j)
-
--- Some step along t, in some row, or along u is too long on the axis number a.
+-- Some first difference on the axis number a is beyond 2N, along t in some row or along u between two rows.
 unfoldable pub longAlong : Patch → (a : ℕ) → Bool
 longAlong p a =
-    someBelow (suc (p .m)) (λ j. someBelow (p .n) (λ i. longT p a i j)) ||
-    someBelow (p .m) (λ j. someBelow (suc (p .n)) (λ i. longU p a i j))
+    someLong (alongT (surfaceAlong p a 0)) (pos (scaleOf (patchOf p))) (suc (p .m)) (p .n) ||
+    someLong (alongU (surfaceAlong p a 0)) (pos (scaleOf (patchOf p))) (p .m) (suc (p .n))
 
 -- Row 0 on one axis: the cell of point 0.
 abbrev pub startLine : Patch → (a : ℕ) (stride : ℤ) → Line
 startLine p a stride = record {
   walk = startOf stride (pos (getD (p .points) a 0)) (cubicAlong p a 0 0);
-  d1 = cubicAlong p a 1 0;
-  d2 = cubicAlong p a 2 0;
-  d3 = cubicAlong p a 3 0;
+  surface = surfaceAlong p a 0;
 }
 
 abbrev pub startLines : Patch → Strides → Lines
@@ -104,9 +78,7 @@ startLines p h = record { x = startLine p 0 (h .x); y = startLine p 1 (h .y); z 
 -- There is room for the next row on one axis, and on three.
 pub record LineRoom (scale stride : ℤ) (l : Line) : Type 0 where
   pub walk : Steps scale stride (l .walk)
-  pub d1 : Room (l .d1)
-  pub d2 : Room (l .d2)
-  pub d3 : Room (l .d3)
+  pub surface : SurfaceRoom (l .surface)
 
 abbrev pub lineOf : Lines → Axis → Line
 lineOf l x-axis = l .x
@@ -118,12 +90,7 @@ pub record LinesRoom (scale : ℤ) (h : Strides) (l : Lines) : Type 0 where
 
 -- The next row on one axis, and on three.
 abbrev pub nextLine : (scale stride : ℤ) → Line → Line
-nextLine scale stride l = record {
-  walk = stepOf scale stride (l .walk);
-  d1 = nextOf (l .d1);
-  d2 = nextOf (l .d2);
-  d3 = nextOf (l .d3);
-}
+nextLine scale stride l = record { walk = stepOf scale stride (l .walk); surface = nextSurface (l .surface) }
 
 abbrev pub nextLines : (scale : ℤ) (h : Strides) → Lines → Lines
 nextLines scale h l = record {
@@ -132,10 +99,10 @@ nextLines scale h l = record {
   z = nextLine scale (h .z) (l .z);
 }
 
--- The row's walker at its first sample.
+-- The row's first sample on one axis, and on three: the walk's cell and remainder, and the surface's differences along
+-- t.
+abbrev pub rowLine : Line → machine.Axis
+rowLine l = rowOf (l .walk) (l .surface .d1) (l .surface .d2) (l .surface .d3)
+
 abbrev pub rowWalker : Lines → Walker
-rowWalker l = record {
-  x = rowOf (l .x .walk) (l .x .d1) (l .x .d2) (l .x .d3);
-  y = rowOf (l .y .walk) (l .y .d1) (l .y .d2) (l .y .d3);
-  z = rowOf (l .z .walk) (l .z .d1) (l .z .d2) (l .z .d3);
-}
+rowWalker l = record { x = rowLine (l .x); y = rowLine (l .y); z = rowLine (l .z) }

@@ -1,7 +1,7 @@
 // Patches: checked and drawn by Kaufman's FAST_SURFACE.
 mod rows;
+mod start;
 mod steps;
-mod surface;
 
 ghost use mathlib.Core.Path.{_≡_};
 ghost use mathlib.Core.Bool.{false};

@@ -5,25 +5,21 @@ ghost use lib.ListN.{length};
 ghost use Rattle.decide.specs.Refusal.{accepted};
 ghost use Rattle.drawing.specs.Refusals.{drawVerdict};
 ghost use Rattle.drawing.specs.Drawing.{drawn};
-ghost use Rattle.cubic.specs.Axis.{rowOf};
 ghost use Rattle.scan.specs.Walker.{SmallStride, SmallStrides};
 ghost use Rattle.patch.specs.Patch.{patchOf};
-ghost use Rattle.patch.specs.Machine.{InLimits, startLine, startLines, LineRoom, LinesRoom, nextLine};
-ghost use Rattle.patch.specs.Machine.{nextLines, rowWalker};
+ghost use Rattle.patch.specs.Machine.{InLimits, startLine, startLines, rowLine, rowWalker};
+ghost use Rattle.patch.specs.Machine.{LineRoom, LinesRoom, nextLine, nextLines};
 use crate::Patch;
-use crate::surface::start_surface;
+use crate::start::start_surface;
 use cubic::axis::Axis;
-use cubic::differences::Cubic;
 use scan::walker::Strides;
 use scan::walker::Walker;
+use surface::Surface;
 
-// One axis: the walk along u through t = 0, whose remainder is carried into each row, beside cubics along u of the
-// differences along t.
+// One axis: the walk along u through t = 0, whose remainder is carried into each row, beside the surface at that row.
 pub(crate) struct Line {
     pub walk: Axis,
-    pub d1: Cubic,
-    pub d2: Cubic,
-    pub d3: Cubic,
+    pub surface: Surface,
 }
 
 // Three axes.
@@ -43,14 +39,9 @@ fn start_line(patch: Patch, a: usize, stride: i64) -> Line
     let p = patch.points;
     let s = start_surface(patch, a);
     let value = s.value;
-    let d1 = s.d1;
-    let d2 = s.d2;
-    let d3 = s.d3;
     Line {
         walk: Axis::start(stride, scan::number::coordinate(p[a]), value),
-        d1,
-        d2,
-        d3,
+        surface: s,
     }
 }
 
@@ -70,12 +61,13 @@ fn start_lines(patch: Patch, h: Strides) -> Lines
 impl Line {
     // The row that starts where the walk along u stands.
     fn row(self) -> Axis
-        ensures { λ r. ⌜ r ≡ rowOf (self .walk) (self .d1) (self .d2) (self .d3) ⌝ }
+        ensures { λ r. ⌜ r ≡ rowLine self ⌝ }
     {
         let walk = self.walk;
-        let b = self.d1;
-        let c = self.d2;
-        let d = self.d3;
+        let s = self.surface;
+        let b = s.d1;
+        let c = s.d2;
+        let d = s.d3;
         walk.row(b, c, d)
     }
 
@@ -85,15 +77,11 @@ impl Line {
         ensures { λ r. ⌜ r ≡ nextLine scale stride self ⌝ }
     {
         let walk = self.walk;
-        let b = self.d1;
-        let c = self.d2;
-        let d = self.d3;
+        let s = self.surface;
         let next = walk.step(scale, stride);
         Line {
             walk: next,
-            d1: b.next(),
-            d2: c.next(),
-            d3: d.next(),
+            surface: s.next(),
         }
     }
 }
@@ -135,11 +123,12 @@ pub(crate) fn mark_rows(side: u32, patch: Patch, grid: &mut [u8])
     ensures { λ _. ⌜ now (grid .exit) ≡ drawn side (patchOf patch) (now (grid .entry)) ⌝ }
 {
     let h = scan::number::grid_strides(side);
-    let scale = scan::number::cubed(patch.n) * scan::number::cubed(patch.m);
+    let scale = crate::start::scale(patch);
+    let mark = patch.mark;
     let mut lines = start_lines(patch, h);
-    scan::mark::mark_row(lines.row(), patch.n, scale, h, patch.mark, grid);
+    scan::mark::mark_row(lines.row(), patch.n, scale, h, mark, grid);
     for j in 0..patch.m {
         lines = lines.next(scale, h);
-        scan::mark::mark_row(lines.row(), patch.n, scale, h, patch.mark, grid);
+        scan::mark::mark_row(lines.row(), patch.n, scale, h, mark, grid);
     }
 }

@@ -18,12 +18,13 @@ natural-read k h = held {z = pos k} (within-pos (le-of-lt h)) (lit< tt) .same
 pub natural-held : {k M : ℕ} {r : ℤ} → r ≡ pos k → k ≤ M → M < 2 ^ 63 → Holds M (pos k) (read r)
 natural-held {k} e h l = rw e (held {z = pos k} (within-pos h) l)
 
--- A side's square and cube.
+-- A side's square.
 pub square-at-most : {S : ℕ} → S ≤ 64 → S * S ≤ 4096
 square-at-most h = mul-le-mul h h
 
-pub cube-at-most : {S : ℕ} → S ≤ 64 → S * S * S ≤ 262144
-cube-at-most h = mul-le-mul (square-at-most h) h
+-- A cube grows with its side.
+pub cube-grows : {a b : ℕ} → a ≤ b → a * a * a ≤ b * b * b
+cube-grows h = mul-le-mul (mul-le-mul h h) h
 
 -- What is read back of an answer that is a number below 2^32.
 pub answer-read : {k : ℕ} {r : ℤ} → r ≡ pos k → k < 2 ^ 32 → read r ≡ pos k

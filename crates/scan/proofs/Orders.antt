@@ -1,7 +1,6 @@
 -- The order for drawing and listing in two parts: what comes before the step test, and the step test. What the first part
 -- passes is within the limits that the step test asks for. Then verdicts and answers as the functions that draw meet them.
 use mathlib.Core.Path.{_≡_, sym, _∙_, ap}
-use mathlib.Core.Logic.{⊎-elim}
 use mathlib.Core.Bool.{Bool, true, false, not}
 use mathlib.Core.List.{List, [], _∷_}
 use Prim.Native.Nat.{ℕ, _≤_, _<_}
@@ -12,9 +11,9 @@ use Rattle.decide.specs.Refusal.{_when_, Verdict, accepted, refused, firstThat,
 use Rattle.decide.specs.declared.Verdict as found
 use Rattle.decide.specs.declared.Verdict.the-variants.{Accepted, Refused}
 use Rattle.decide.specs.Verdict.{verdictOf}
-use Rattle.decide.proofs.Truth.{false-iff, true-of, decided}
+use Rattle.decide.proofs.Truth.{false-iff}
 use Rattle.decide.proofs.Some.{some-of}
-use Rattle.decide.proofs.Refusal.{accepted-none, first-append, first-applies}
+use Rattle.decide.proofs.Refusal.{accepted-none, first-append}
 use Rattle.cube.specs.Cube.{sideOut, volume}
 use Rattle.cube.proofs.Words.{side-in}
 use Rattle.drawing.specs.Object.{Object}
@@ -68,16 +67,6 @@ passed S points g m out l e =
       coordinate-below = λ k h. coordinate-in S (getD points k 0) .0 (λ t. below (some-of (coordinateOut S) points .1 (k, h, t)));
     }
 
--- What the grid has to say matters for sides up to 64 only: 11 comes first.
-pub grid-at-side : (S : ℕ) (o : Object) (g g′ m l : Bool) → (S ≤ 64 → g ≡ g′) →
-    firstThat (order S o g m l) ≡ firstThat (order S o g′ m l)
-unfolding order
-grid-at-side S o g g′ m l same =
-    ⊎-elim
-    (λ t. let out = true-of (sideOut S) t in first-applies 11 (sideOut S) _ out ∙ sym (first-applies 11 (sideOut S) _ out))
-    (λ f. rw (same (side-in S .0 f .1)))
-    (decided (sideOut S))
-
 -- A call's verdict, where v is what the tests before the step test answered and long what the step test did.
 module _ (S : ℕ) (o : Object) (g m l out : Bool) (count : out ≡ someOf (countOut (o .most)) (o .counts)) (v : found.Verdict)
     (e : verdictOf v ≡ firstThat (beforeSteps S (o .points) g m out l)) where
@@ -103,11 +92,10 @@ module _ (S : ℕ) (o : Object) (g m l out : Bool) (count : out ≡ someOf (coun
     accepted-short t b = sym (steps-decide ∙ short-accepted o (sym t ∙ b))
 
 -- A drawing's verdict, where `cube` is what the test of the grid's length answered.
-pub draw-judged : (S : ℕ) (o : Object) (bytes : ℕ) (v : found.Verdict) {cube : Bool} → (S ≤ 64 → cube ≡ eqb bytes (volume S)) →
+pub draw-judged : (S : ℕ) (o : Object) (bytes : ℕ) (v : found.Verdict) {cube : Bool} → cube ≡ eqb bytes (volume S) →
     verdictOf v ≡ firstThat (order S o (not cube) (eqb (o .mark) 0) false) → drawVerdict S bytes o ≡ verdictOf v
 unfolding drawVerdict
-draw-judged S o bytes v {cube} same e =
-    grid-at-side S o _ (not cube) (eqb (o .mark) 0) false (λ h. ap not (sym (same h))) ∙ sym e
+draw-judged S o bytes v same e = sym (rw same at e)
 
 -- A drawing's answer and grid, by its verdict.
 module _ (S : ℕ) (o : Object) (grid : List ℕ) (v : found.Verdict) (judged : drawVerdict S (length grid) o ≡ verdictOf v) where

@@ -1,6 +1,5 @@
 // The refusals before the step test.
 ghost use mathlib.Core.Path.{_≡_};
-ghost use Prim.Native.Nat.{_≤_};
 ghost use lib.Dec.{eqb};
 ghost use Rattle.decide.specs.Some.{someOf};
 ghost use Rattle.decide.specs.Refusal.{firstThat};
@@ -37,11 +36,11 @@ pub fn is_count_out(most: u32, n: u32) -> bool
     n == 0 || most < n
 }
 
-// The grid has S × S × S bytes, for a side up to 64.
+// The grid has S × S × S bytes. The cube of 2642246 is above 2^64, and so above every length.
 pub fn is_volume(side: u32, bytes: usize) -> bool
-    ensures { λ r. ⌜ (side ≤ 64 → r ≡ eqb bytes (volume side)) ⌝ }
+    ensures { λ r. ⌜ r ≡ eqb bytes (volume side) ⌝ }
 {
-    if 64 < side {
+    if 2642245 < side {
         return false;
     }
     let s = side as usize;

@@ -7,7 +7,7 @@ use Prim.Native.Nat.{ℕ, suc, _-_, _≤_, _<_, zero-le}
 use native.Mathlib.Numerals.{add-one}
 use native.Mathlib.Omega.{arith}
 use lib.ListN.{length}
-use lib.IntN.{pos, _*ℤ_}
+use lib.IntN.{pos}
 use Rattle.cube.specs.Cube.{volume}
 use Rattle.drawing.specs.Object.{scaleOf}
 use Rattle.drawing.specs.Refusals.{Drawable}
@@ -21,8 +21,7 @@ use Rattle.patch.specs.declared.Patch.{Patch}
 use Rattle.patch.specs.declared.rows.Lines.{Lines}
 use Rattle.patch.specs.Patch.{patchOf}
 use Rattle.patch.specs.Machine.{InLimits, nextLines}
-use Rattle.patch.proofs.Along.{drawable-in-limits, scale-fits, scale-held}
-use Rattle.patch.proofs.Search.{patch-scale}
+use Rattle.patch.proofs.Along.{drawable-in-limits, scale-read}
 use Rattle.patch.proofs.Walked.{OnRow, lines-start, places, row-at, first-row, one-row-more}
 use Rattle.patch.proofs.Walked.{drawn-rows, room-for-next, next-is, room-for-row, row-marks}
 use Rattle.patch.proofs.rows.mark_rows.Statement.{statement}
@@ -54,10 +53,10 @@ next-so-far S p {grid₀} {grid} {j = j} s l o e = record {
 }
 
 abbrev Inv-loop : tie.InvT-loop
-Inv-loop side patch grid₀ h scale lines₀ j₀ j-end grid lines j = SoFar side patch grid₀ grid lines j
+Inv-loop side patch grid₀ h scale mark lines₀ j₀ j-end grid lines j = SoFar side patch grid₀ grid lines j
 
 abbrev μ-loop : tie.MeasureT-loop
-μ-loop side patch grid₀ h scale lines₀ j₀ j-end grid lines j = patch .m - j
+μ-loop side patch grid₀ h scale mark lines₀ j₀ j-end grid lines j = patch .m - j
 
 module _ (c : tie.Start Inv-loop μ-loop) where
   abbrev patch : Patch
@@ -73,41 +72,28 @@ module _ (c : tie.Start Inv-loop μ-loop) where
   volume-is = draw-accepted (c .args .side) (patchOf patch) _ .0 (c .pre) .1
 
 -- The scale, as it is read back.
-scale-read : (c : tie.After-cubed2 Inv-loop μ-loop) →
-    read (read (c .before .cubed .result) *ℤ read (c .cubed2 .result)) ≡
-    pos (scaleOf (patchOf (patch (c .before .before .before .before))))
-scale-read c =
-    let s = c .before .before .before .before in
-    scale-held (c .before .cubed .ensures) (c .cubed2 .ensures) (limits s .n-most) (limits s .m-most) .same ∙
-    ap pos (sym (patch-scale (patch s)))
+scale-is : (c : tie.After-scale Inv-loop μ-loop) →
+    read (c .scale .result) ≡ pos (scaleOf (patchOf (patch (c .before .before .before))))
+scale-is c = scale-read (limits (c .before .before .before)) (c .scale .ensures)
 
 grid-strides-requires : tie.Need-grid-strides-requires Inv-loop μ-loop
 grid-strides-requires c κs = drawable (c .before) .side-most
 
-cubed-requires : tie.Need-cubed-requires Inv-loop μ-loop
-cubed-requires c κs = omega (arith, limits (c .before .before) .n-most)
-
-cubed-requires-2 : tie.Need-cubed-requires-2 Inv-loop μ-loop
-cubed-requires-2 c κs = omega (arith, limits (c .before .before .before) .m-most)
-
-mul-scale : tie.Need-mul-scale Inv-loop μ-loop
-mul-scale c =
-    let l = limits (c .before .before .before .before) in
-    scale-fits (c .before .cubed .ensures) (c .cubed2 .ensures) (omega (arith, l .n-most, l .m-most))
-    (omega (arith, l .n-most, l .m-most))
+scale-requires : tie.Need-scale-requires Inv-loop μ-loop
+scale-requires c κs = limits (c .before .before)
 
 start-lines-requires : tie.Need-start-lines-requires Inv-loop μ-loop
 start-lines-requires c κs =
-    let s = c .before .before .before .before in
-    (limits s, rw (c .before .before .grid-strides .ensures) (grid-small (drawable s .side-most)))
+    let s = c .before .before .before in
+    (limits s, rw (c .before .grid-strides .ensures) (grid-small (drawable s .side-most)))
 
 -- Row 0.
 start-lines-on : (c : tie.After-start-lines Inv-loop μ-loop) →
-    let s = c .before .before .before .before .before in
+    let s = c .before .before .before .before in
     OnRow (patch s) (gridStrides (s .args .side)) 0 (c .start-lines .result)
 start-lines-on c =
-    let s = c .before .before .before .before .before in
-    lines-start (patch s) (c .before .before .before .grid-strides .ensures) (c .start-lines .ensures)
+    let s = c .before .before .before .before in
+    lines-start (patch s) (c .before .before .grid-strides .ensures) (c .start-lines .ensures)
 
 row-requires : tie.Need-row-requires Inv-loop μ-loop
 row-requires c κs = tt
@@ -116,43 +102,42 @@ mark-row-requires : tie.Need-mark-row-requires Inv-loop μ-loop
 mark-row-requires c κs =
     let r = c .before in
     let b = r .before .before in
-    let s = b .before .before .before .before in
-    room-for-row (patch s) (limits s) (drawable s) (scale-read b) (b .before .before .grid-strides .ensures)
+    let s = b .before .before .before in
+    room-for-row (patch s) (limits s) (drawable s) (scale-is b) (b .before .grid-strides .ensures)
     (start-lines-on (r .before)) (r .row .ensures) zero-le (volume-is s)
 
 loop-holds : tie.Need-loop-holds Inv-loop μ-loop
 loop-holds c =
     let l = c .before .before .before .before .before in
-    let s = l .before .before .before .before .before in
+    let s = l .before .before .before .before in
     first-so-far (s .args .side) (patch s) (start-lines-on l)
     (ap length (c .before .before .mark-row .ensures) ∙ length-marked (patch s .mark) _ (now (s .args .grid)) ∙ volume-is s)
 
 -- In the loop.
 module _ (c : tie.In-loop Inv-loop μ-loop) where
-  abbrev base : tie.After-cubed2 Inv-loop μ-loop
+  abbrev base : tie.After-scale Inv-loop μ-loop
   base = c .before .before .before .before .before .before .before .before
 
   abbrev start : tie.Start Inv-loop μ-loop
-  start = base .before .before .before .before
+  start = base .before .before .before
 
-  strides : base .before .before .grid-strides .result ≡ gridStrides (start .args .side)
-  strides = base .before .before .grid-strides .ensures
+  strides : base .before .grid-strides .result ≡ gridStrides (start .args .side)
+  strides = base .before .grid-strides .ensures
 
   before-last : c .before .loop .j < patch start .m
   before-last = c .loop-test .taken
 
   -- The next row's lines.
   next-lines : {r : Lines} →
-      r ≡ nextLines (read (read (base .before .cubed .result) *ℤ read (base .cubed2 .result)))
-      (base .before .before .grid-strides .result) (c .before .loop .lines) →
+      r ≡ nextLines (read (base .scale .result)) (base .before .grid-strides .result) (c .before .loop .lines) →
       OnRow (patch start) (gridStrides (start .args .side)) (suc (c .before .loop .j)) r
   next-lines e =
-      next-is (patch start) (limits start) (drawable start) (scale-read base) strides (c .before .loop .inv .on-row) e before-last
+      next-is (patch start) (limits start) (drawable start) (scale-is base) strides (c .before .loop .inv .on-row) e before-last
 
 next-requires : tie.Need-next-requires Inv-loop μ-loop
 next-requires c κs =
     let s = start c in
-    room-for-next (patch s) (limits s) (drawable s) (scale-read (base c)) (strides c) (c .before .loop .inv .on-row) (before-last c)
+    room-for-next (patch s) (limits s) (drawable s) (scale-is (base c)) (strides c) (c .before .loop .inv .on-row) (before-last c)
 
 row-requires-2 : tie.Need-row-requires-2 Inv-loop μ-loop
 row-requires-2 c κs = tt
@@ -161,7 +146,7 @@ mark-row-requires-2 : tie.Need-mark-row-requires-2 Inv-loop μ-loop
 mark-row-requires-2 c κs =
     let i = c .before .before .before in
     let s = start i in
-    room-for-row (patch s) (limits s) (drawable s) (scale-read (base i)) (strides i)
+    room-for-row (patch s) (limits s) (drawable s) (scale-is (base i)) (strides i)
     (next-lines i (c .before .before .next .ensures)) (c .before .row2 .ensures) (before-last i)
     (i .before .loop .inv .size)
 
@@ -181,23 +166,23 @@ loop-again c =
     let o = next-lines i (n .next .ensures) in
     rw add-one
     (next-so-far (s .args .side) (patch s) (i .before .loop .inv) (before-last i) o
-    (row-marks (patch s) (limits s) (drawable s) (scale-read (base i)) (strides i) o
+    (row-marks (patch s) (limits s) (drawable s) (scale-is (base i)) (strides i) o
     (c .before .before .before .before .row2 .ensures) (before-last i) (i .before .loop .grid) (c .before .before .mark-row2 .ensures)))
 
 same-length : tie.Need-same-length Inv-loop μ-loop
 same-length c =
     let b = c .before .before .before .before .before .before .before .before in
-    c .before .loop .inv .size ∙ sym (volume-is (b .before .before .before .before))
+    c .before .loop .inv .size ∙ sym (volume-is (b .before .before .before))
 
 returns : tie.Need-returns Inv-loop μ-loop
 returns c =
     let m = c .before .before .before .before in
     let r = m .before .before in
     let b = r .before .before in
-    let s = b .before .before .before .before in
+    let s = b .before .before .before in
     let l = c .before .loop in
     let last : l .j ≡ patch s .m = omega (arith, l .inv .within, c .loop-test .left) in
-    let row0 = row-marks (patch s) (limits s) (drawable s) (scale-read b) (b .before .before .grid-strides .ensures)
+    let row0 = row-marks (patch s) (limits s) (drawable s) (scale-is b) (b .before .grid-strides .ensures)
     (start-lines-on (r .before)) (r .row .ensures) zero-le (now (s .args .grid)) (m .mark-row .ensures) in
     rw last at (l .inv .marks (now (s .args .grid))
     (row0 ∙ ap (λ ps. marked (patch s .mark) ps (now (s .args .grid))) (sym (first-row (s .args .side) (patch s))))) ∙
@@ -210,9 +195,7 @@ mark-rows-spec =
     Inv-loop
     μ-loop
     grid-strides-requires
-    cubed-requires
-    cubed-requires-2
-    mul-scale
+    scale-requires
     start-lines-requires
     row-requires
     mark-row-requires

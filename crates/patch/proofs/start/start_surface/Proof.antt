@@ -10,10 +10,10 @@ use Rattle.cubic.specs.Differences.{differencesAt}
 use Rattle.cubic.proofs.Fits.{read}
 use Rattle.scan.proofs.Natural.{answer-read}
 use Rattle.patch.specs.declared.Patch.{Patch}
-use Rattle.patch.specs.Machine.{columnAlong}
+use Rattle.patch.specs.Machine.{columnAlong, surfaceAlong}
 use Rattle.patch.proofs.Along.{column-along-room, across-start, FieldsRead, fields-read}
-use Rattle.patch.proofs.surface.start_surface.Statement.{statement}
-use Rattle.patch.proofs.surface.start_surface.Tie as tie
+use Rattle.patch.proofs.start.start_surface.Statement.{statement}
+use Rattle.patch.proofs.start.start_surface.Tie as tie
 
 module _ (c : tie.After-count) where
   abbrev s : tie.Start
@@ -91,6 +91,7 @@ start-requires-4 c κs =
     (across-start (s k .pre .0) (s k .pre .1) 3 (lit< tt))
 
 returns : tie.Need-returns
+unfolding surfaceAlong
 returns c =
     let b = c .before .before .before .before .before in
     let d = b .before .before .before .before .before in

@@ -1,7 +1,7 @@
 -- `Surface::next` meets its contract: equation 8 on each of the four cubics.
 use borrow.Author.Needs.{needs}
-use Rattle.patch.proofs.surface.Surface.next.Statement.{statement}
-use Rattle.patch.proofs.surface.Surface.next.Tie as tie
+use Rattle.surface.proofs.Surface.next.Statement.{statement}
+use Rattle.surface.proofs.Surface.next.Tie as tie
 
 next-requires : tie.Need-next-requires
 next-requires c κs = search needs
