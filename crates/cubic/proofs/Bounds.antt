@@ -4,7 +4,7 @@ use Prim.Native.Nat.{ℕ, zero, suc, _+_, _-_, _*_, _≤_, _<_}
 use native.Mathlib.Nat.{le-trans, mul-le-mul, mul-le-mul-right}
 use native.Mathlib.Omega.{arith}
 use lib.Dec.{lit<}
-use lib.IntN.{ℤ, pos, negsuc, natAbs, _+ℤ_, _-ℤ_, _*ℤ_}
+use lib.IntN.{ℤ, pos, negsuc, natAbs, _+ℤ_, _*ℤ_}
 use Rattle.integers.specs.Magnitude.{Within}
 use Rattle.integers.proofs.Magnitude.{within-add, within-mul, within-self, within-pos, within-weaken}
 use Rattle.integers.proofs.Natural.{pos-sub}
@@ -14,7 +14,7 @@ use Rattle.cubic.specs.Blend.{blendℤ, samples, surface}
 use Rattle.cubic.specs.Differences.{delta, differencesAt, along}
 use Rattle.cubic.specs.Basis.{dot}
 use Rattle.cubic.specs.Room.{Each, Level, Startable, Fields}
-use Rattle.cubic.proofs.Rows.{heads-differences, slopes-differences}
+use Rattle.cubic.proofs.Rows.{heads-differences}
 use Rattle.cubic.proofs.Closed.{coef3, coef2, coef1, coef0, first-closed, second-closed, third-closed}
 
 -- An integer times one within Q.
@@ -160,16 +160,4 @@ module _ {L Q R m j : ℕ} (f0 f1 f2 f3 : ℕ → ℤ) (i : ℕ) (l : Level L Q 
         d1 = along-fields 1 (lit< tt) .value;
         d2 = along-fields 2 (lit< tt) .value;
         d3 = along-fields 3 (lit< tt) .value;
-      })
-
-  -- And of the next row less this one.
-  pub slope-fields :
-      Fields R (differencesAt (λ q. surface (pos m) f0 f1 f2 f3 q (suc j) -ℤ surface (pos m) f0 f1 f2 f3 q j) i)
-  slope-fields =
-      rw (← slopes-differences (pos m) f0 f1 f2 f3 i j)
-      (record {
-        value = along-fields 0 (lit< tt) .d1;
-        d1 = along-fields 1 (lit< tt) .d1;
-        d2 = along-fields 2 (lit< tt) .d1;
-        d3 = along-fields 3 (lit< tt) .d1;
       })

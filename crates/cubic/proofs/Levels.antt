@@ -1,10 +1,10 @@
 -- The bounds at the limits, coordinates up to 63: control values 2g, within 126, keep every number of a curve to n =
 -- 512, of a patch to 256 × 256 and of a volume to 32 × 32 × 32 within 2^60, so what the functions require is met.
-use Prim.Native.Nat.{ℕ, suc, _+_, _*_, _≤_, _<_, _^_, zero-le}
+use Prim.Native.Nat.{ℕ, _+_, _*_, _≤_, _<_, _^_, zero-le}
 use native.Mathlib.Nat.{le-trans}
 use native.Mathlib.Omega.{arith}
 use lib.Dec.{lit≤, lit<}
-use lib.IntN.{ℤ, pos, _-ℤ_}
+use lib.IntN.{ℤ, pos}
 use Rattle.integers.specs.Magnitude.{Within}
 use Rattle.integers.proofs.Magnitude.{within-pos, within-weaken, within-mul}
 use Rattle.cubic.specs.declared.differences.Cubic.{Cubic}
@@ -13,7 +13,7 @@ use Rattle.cubic.specs.Blend.{samples, column, patch, face, volume, twic
 use Rattle.cubic.specs.Differences.{delta, differencesAt, along}
 use Rattle.cubic.specs.Room.{Each, Level, Startable, Fields, Room, Steps}
 use Rattle.cubic.specs.Tracks.{Tracks}
-use Rattle.cubic.proofs.Bounds.{level-start, level-fields, field-within, along-fields, row-fields, slope-fields}
+use Rattle.cubic.proofs.Bounds.{level-start, level-fields, field-within, along-fields, row-fields}
 
 -- A level by computation.
 level : {L Q R : ℕ} → 1 ≤ L → L * L * L * Q ≤ R → 120 * (L * L * Q) ≤ R → R ≤ 2 ^ 60 → Level L Q R
@@ -125,13 +125,6 @@ module _ {n m : ℕ} (g : ℕ → ℕ) (hn : n ≤ 256) (hm : m ≤ 256) (hg : (
     patch-row-room =
         fields-room patch-level-2
         (row-fields (col 0) (col 1) (col 2) (col 3) i patch-level-2 hm hj
-        (columns 0 (lit< tt) i hi) (columns 1 (lit< tt) i hi) (columns 2 (lit< tt) i hi) (columns 3 (lit< tt) i hi))
-
-    -- And so does the next row less this one.
-    pub patch-slope-room : Room (differencesAt (λ q. patch n m (twice g) q (suc j) -ℤ patch n m (twice g) q j) i)
-    patch-slope-room =
-        fields-room patch-level-2
-        (slope-fields (col 0) (col 1) (col 2) (col 3) i patch-level-2 hm hj
         (columns 0 (lit< tt) i hi) (columns 1 (lit< tt) i hi) (columns 2 (lit< tt) i hi) (columns 3 (lit< tt) i hi))
 
 -- A volume, ready for document 02's A.13: starts along each of three parameters, from the points and from what the

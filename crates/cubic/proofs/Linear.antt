@@ -84,12 +84,3 @@ delta-blend m j (suc k) f0 f1 f2 f3 i =
     ap₂ (λ a b. a -ℤ b) (delta-blend m j k f0 f1 f2 f3 (suc i)) (delta-blend m j k f0 f1 f2 f3 i) ∙
     sym (blend-sub m j (delta k f0 (suc i)) (delta k f1 (suc i)) (delta k f2 (suc i)) (delta k f3 (suc i))
     (delta k f0 i) (delta k f1 i) (delta k f2 i) (delta k f3 i))
-
--- Differences of a difference of sequences.
-pub delta-sub : (k : ℕ) (f g : ℕ → ℤ) (i : ℕ) → delta k (λ l. f l -ℤ g l) i ≡ delta k f i -ℤ delta k g i
-unfolding delta
-delta-sub zero f g i = refl
-delta-sub (suc k) f g i =
-    ap₂ (λ a b. a -ℤ b) (delta-sub k f g (suc i)) (delta-sub k f g i) ∙
-    solve (delta k f (suc i) ∷ delta k g (suc i) ∷ delta k f i ∷ delta k g i ∷ [])
-    ((var 0 ⊖ var 1) ⊖ (var 2 ⊖ var 3)) ((var 0 ⊖ var 2) ⊖ (var 1 ⊖ var 3)) tt

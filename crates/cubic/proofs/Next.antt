@@ -30,7 +30,7 @@ module _ (f : ℕ → ℤ) (i : ℕ) where
   next-differences h = rw (delta-next 0, delta-next 1, delta-next 2, third-same h)
 
 -- After i nexts the fields are the value and the differences at index i.
-nexts-differences : {f : ℕ → ℤ} → IsCubic f → (i : ℕ) → nexts i (differencesAt f 0) ≡ differencesAt f i
+pub nexts-differences : {f : ℕ → ℤ} → IsCubic f → (i : ℕ) → nexts i (differencesAt f 0) ≡ differencesAt f i
 unfolding nexts
 nexts-differences h zero = refl
 nexts-differences {f} h (suc i) = ap nextOf (nexts-differences h i) ∙ next-differences f i h

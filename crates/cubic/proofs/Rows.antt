@@ -1,13 +1,13 @@
 -- Equation 23 without a second identity. Four sequences along t have values and differences; blended along u these are
 -- the value and the differences of the row, since differences commute with the blend. The sequences may themselves be
 -- rows, blended along a further parameter.
-use mathlib.Core.Path.{_≡_, refl, sym, _∙_, ap₂}
-use Prim.Native.Nat.{ℕ, suc}
-use lib.IntN.{ℤ, pos, _-ℤ_}
+use mathlib.Core.Path.{_≡_, sym, _∙_}
+use Prim.Native.Nat.{ℕ}
+use lib.IntN.{ℤ, pos}
 use Rattle.cubic.specs.declared.differences.Cubic.{Cubic}
 use Rattle.cubic.specs.Blend.{samples, surface}
-use Rattle.cubic.specs.Differences.{delta, differencesAt, headsOf, slopesOf, along, IsCubic}
-use Rattle.cubic.proofs.Linear.{delta-blend, delta-sub, blend-zero}
+use Rattle.cubic.specs.Differences.{delta, differencesAt, headsOf, along, IsCubic}
+use Rattle.cubic.proofs.Linear.{delta-blend, blend-zero}
 
 -- Structs with equal fields are equal.
 pub same-fields : {v w a b c d x y : ℤ} → v ≡ w → a ≡ b → c ≡ d → x ≡ y →
@@ -32,21 +32,6 @@ module _ (m : ℤ) (f0 f1 f2 f3 : ℕ → ℤ) where
   unfolding differencesAt delta
   heads-differences i j = same-fields (row-delta 0 i j) (row-delta 1 i j) (row-delta 2 i j) (row-delta 3 i j)
 
-  -- The k-th difference along t of the next row less this one is the first difference of the k-th of those cubics.
-  slope-delta : (k i j : ℕ) →
-      cubic k i j .d1 ≡ delta k (λ l. row (suc j) l -ℤ row j l) i
-  unfolding differencesAt delta
-  slope-delta k i j =
-      ap₂ (λ a b. a -ℤ b) (row-delta k i (suc j)) (row-delta k i j) ∙
-      sym (delta-sub k (row (suc j)) (row j) i)
-
-  -- Their first differences are the value and the differences along t of the next row less this one.
-  pub slopes-differences : (i j : ℕ) →
-      slopesOf (cubic 0 i j) (cubic 1 i j) (cubic 2 i j) (cubic 3 i j) ≡
-      differencesAt (λ l. row (suc j) l -ℤ row j l) i
-  unfolding differencesAt delta
-  slopes-differences i j = same-fields (slope-delta 0 i j) (slope-delta 1 i j) (slope-delta 2 i j) (slope-delta 3 i j)
-
   module _ (c0 : IsCubic f0) (c1 : IsCubic f1) (c2 : IsCubic f2) (c3 : IsCubic f3) where
     -- Each row is a cubic along t.
     pub row-cubic : (j : ℕ) → IsCubic (row j)
@@ -55,12 +40,4 @@ module _ (m : ℤ) (f0 f1 f2 f3 : ℕ → ℤ) where
       fourth = λ i.
           delta-blend m (pos j) 4 f0 f1 f2 f3 i ∙
           rw (c0 .fourth i, c1 .fourth i, c2 .fourth i, c3 .fourth i) (blend-zero m (pos j));
-    }
-
-    -- So is the next row less this one.
-    pub slope-cubic : (j : ℕ) → IsCubic (λ l. row (suc j) l -ℤ row j l)
-    slope-cubic j = record {
-      fourth = λ i.
-          delta-sub 4 (row (suc j)) (row j) i ∙
-          rw (row-cubic (suc j) .fourth i, row-cubic j .fourth i) refl;
     }

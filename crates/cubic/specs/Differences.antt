@@ -31,10 +31,6 @@ nexts (suc i) c = nextOf (nexts i c)
 abbrev pub headsOf : Cubic → Cubic → Cubic → Cubic → Cubic
 headsOf a b c d = record { value = a .value; d1 = b .value; d2 = c .value; d3 = d .value }
 
--- The first differences of four cubics.
-abbrev pub slopesOf : Cubic → Cubic → Cubic → Cubic → Cubic
-slopesOf a b c d = record { value = a .d1; d1 = b .d1; d2 = c .d1; d3 = d .d1 }
-
 -- The cubic along u, at j, whose control values are the k-th differences, at i, of four sequences along t.
 abbrev pub along : (m : ℤ) (f0 f1 f2 f3 : ℕ → ℤ) (k i j : ℕ) → Cubic
 along m f0 f1 f2 f3 k i j =

@@ -1,7 +1,7 @@
 // A cubic along one parameter: its value and its three forward differences.
 ghost use mathlib.Core.Path.{_≡_};
 ghost use Rattle.cubic.specs.Blend.{samples};
-ghost use Rattle.cubic.specs.Differences.{differencesAt, nextOf, headsOf, slopesOf};
+ghost use Rattle.cubic.specs.Differences.{differencesAt, nextOf, headsOf};
 ghost use Rattle.cubic.specs.Room.{Room, Startable};
 use crate::basis::BASIS;
 use crate::basis::coefficient;
@@ -54,17 +54,5 @@ pub fn heads(a: Cubic, b: Cubic, c: Cubic, d: Cubic) -> Cubic
         d1: b.value,
         d2: c.value,
         d3: d.value,
-    }
-}
-
-// The same of the next row less this one: their first differences.
-pub fn slopes(a: Cubic, b: Cubic, c: Cubic, d: Cubic) -> Cubic
-    ensures { λ r. ⌜ r ≡ slopesOf a b c d ⌝ }
-{
-    Cubic {
-        value: a.d1,
-        d1: b.d1,
-        d2: c.d1,
-        d3: d.d1,
     }
 }

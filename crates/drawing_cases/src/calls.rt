@@ -6,8 +6,8 @@ use crate::answer::Answer;
 use crate::answer::holding;
 use cases::record::number;
 use curve::Curve;
-use patch::Patch;
 use decide::Verdict;
+use patch::Patch;
 
 // What a drawing or a listing answered, and what the bytes lent to it hold.
 pub(crate) fn called(answer: scan::answer::Answer, lent: &[u8]) -> Answer {
