@@ -339,6 +339,8 @@ def half_way(first, second):
 # - Fields are whole numbers up to 99999, not bytes: a mark above 255 is 12, a step count above 512 is 13, a coordinate
 #   above 255 is not below the side, 14, a side above 64 is 11.  All fourteen fields are tried for 42 before 12.
 # - After a refused call the buffer is not cleared either: it holds what it held.
+# - The refusal line of a number or a line above 99999, which 5 columns do not hold, is refused with 54, which document 01
+#   does not have, before 22 for a text shorter than the line.
 
 BUFFER_LENGTH = 64000
 CURVE_LINES = 200
@@ -428,10 +430,19 @@ def draw_sheet(text, buffer):
     return SheetAnswer(None, None, side, len(lines) - 1, grid + bytes(buffer[len(grid) :]))
 
 
+def refusal_line(number, line, text):
+    """Writes "REFUSED, the number in 5 columns, the number of the first refused line in 5 columns" over a lent text."""
+    written = b"REFUSED" + format_line(number, line)
+    refusal = first_refusal((54, lambda: max(number, line) > 99999), (22, lambda: len(text) < len(written)))
+    if refusal is not None:
+        return Answer(refusal, None, bytes(text))
+    return Answer(None, len(written), written + bytes(text[len(written) :]))
+
+
 def sheet_printed(answer):
     """A sheet call's answer in print: "a heading, then x, y, z and mark of each marked cell, in rising byte place"."""
     if answer.refusal is not None:
-        return b"REFUSED" + format_line(answer.refusal, answer.line)
+        return refusal_line(answer.refusal, answer.line, bytes(18)).lent
     cube = product(range(answer.side), repeat=3)
     by_place = sorted((place(answer.side, cell), cell) for cell in cube)
     marked = ((*cell, answer.buffer[at]) for at, cell in by_place if answer.buffer[at] != 0)
