@@ -26,7 +26,7 @@ use Rattle.scan.proofs.Column.{column-room}
 use Rattle.scan.proofs.Natural.{natural-held, cube-grows}
 use Rattle.patch.specs.declared.Patch.{Patch}
 use Rattle.patch.specs.Patch.{patchOf}
-use Rattle.patch.specs.Machine.{InLimits, numbered, columnAlong, doubledAlong, cubicAlong, surfaceAlong}
+use Rattle.patch.specs.Machine.{InLimits, numbered, columnAlong, doubledAlong, surfaceAlong}
 
 -- What can be drawn is within the limits.
 pub drawable-in-limits : {S : ℕ} (p : Patch) → length (p .points) ≡ 48 → Drawable S (patchOf p) → InLimits p

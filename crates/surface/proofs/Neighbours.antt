@@ -3,7 +3,7 @@
 use mathlib.Core.Path.{_≡_, refl, sym, _∙_, ap}
 use mathlib.Core.List.{[], _∷_}
 use Prim.Native.Nat.{ℕ, zero, suc, zero-le}
-use lib.IntN.{ℤ, pos, _+ℤ_, _-ℤ_, +ℤ-invr}
+use lib.IntN.{ℤ, _+ℤ_, _-ℤ_, +ℤ-invr}
 use Rattle.integers.proofs.Magnitude.{within-pos}
 use Rattle.integers.proofs.Ring.{var, _⊕_, _⊖_, solve}
 use Rattle.cubic.specs.declared.differences.Cubic.{Cubic}

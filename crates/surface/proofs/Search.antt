@@ -2,7 +2,6 @@
 use mathlib.Core.Path.{_≡_}
 use mathlib.Core.Bool.{Bool, true, false}
 use Prim.Native.Nat.{ℕ, _<_}
-use lib.Dec.{T}
 use lib.IntN.{ℤ}
 use Rattle.decide.specs.Some.{someBelow}
 use Rattle.decide.proofs.Truth.{true-of, false-of}

@@ -111,7 +111,7 @@ loop-holds c =
     let l = c .before .before .before .before .before in
     let s = l .before .before .before .before in
     first-so-far (s .args .side) (patch s) (start-lines-on l)
-    (ap length (c .before .before .mark-row .ensures) ∙ length-marked (patch s .mark) _ (now (s .args .grid)) ∙ volume-is s)
+    (ap length (c .before .before .mark-row .ensures) ∙ length-marked _ _ _ ∙ volume-is s)
 
 -- In the loop.
 module _ (c : tie.In-loop Inv-loop μ-loop) where

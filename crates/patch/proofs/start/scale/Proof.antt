@@ -22,10 +22,12 @@ module _ (c : tie.After-cubed2) where
   p = c .before .before .args .patch
 
   n-cubed : Holds 16777216 (pos (p .n * p .n * p .n)) (read (c .before .cubed .result))
-  n-cubed = natural-held (c .before .cubed .ensures) (cube-grows (c .before .before .pre .n-most)) (lit< tt)
+  n-cubed =
+      natural-held {k = p .n * p .n * p .n} (c .before .cubed .ensures) (cube-grows (c .before .before .pre .n-most)) (lit< tt)
 
   m-cubed : Holds 16777216 (pos (p .m * p .m * p .m)) (read (c .cubed2 .result))
-  m-cubed = natural-held (c .cubed2 .ensures) (cube-grows (c .before .before .pre .m-most)) (lit< tt)
+  m-cubed =
+      natural-held {k = p .m * p .m * p .m} (c .cubed2 .ensures) (cube-grows (c .before .before .pre .m-most)) (lit< tt)
 
 mul-result : tie.Need-mul-result
 mul-result c = mul-fits (n-cubed c) (m-cubed c) (lit< tt)

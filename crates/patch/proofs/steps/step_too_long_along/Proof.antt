@@ -2,7 +2,7 @@
 use borrow.Author.Needs.{needs}
 use mathlib.Core.Path.{_≡_, refl, sym, _∙_}
 use mathlib.Core.Bool.{Bool}
-use Prim.Native.Nat.{ℕ, _+_, _<_}
+use Prim.Native.Nat.{ℕ, _<_}
 use native.Mathlib.Numerals.{add-one}
 use native.Mathlib.Omega.{arith}
 use lib.IntN.{ℤ, pos}
@@ -28,6 +28,23 @@ module _ {p : Patch} (l : InLimits p) {a : ℕ} (h : a < 3) (w : Parameter) {s d
 
   searched : {found : Bool} → found ≡ someLong d (read r) m n → found ≡ long p a w
   searched q = rw (differences, start, scale-read l scale, e, f) at q
+
+-- What the search along t found, and along u.
+found-t : (c : tie.After-some-long) → let s = c .before .before .before .before .before in
+    c .some-long .result ≡ long (s .args .patch) (s .args .a) along-t
+found-t c =
+    let s = c .before .before .before in
+    let i = s .before .before .pre in
+    searched (i .0) (i .1) along-t (s .start-surface .ensures) (s .before .scale .ensures) (add-one _) refl
+    (c .before .before .along-t .ensures) (c .some-long .ensures)
+
+found-u : (c : tie.After-some-long2) → let s = c .before .before .before .before .before .before .before .before .before in
+    c .some-long2 .result ≡ long (s .args .patch) (s .args .a) along-u
+found-u c =
+    let s = c .before .before .before .before .before .before .before in
+    let i = s .before .before .pre in
+    searched (i .0) (i .1) along-u (s .start-surface .ensures) (s .before .scale .ensures) refl (add-one _)
+    (c .before .before .along-u .ensures) (c .some-long2 .ensures)
 
 scale-requires : tie.Need-scale-requires
 scale-requires c κs = c .pre .0
@@ -62,15 +79,6 @@ some-long-requires-2 c κs =
     can-search (i .0) (i .1) along-u (s .start-surface .ensures) (s .before .scale .ensures) refl (add-one _)
     (c .before .along-u .ensures)
 
--- What the search along t found.
-found-t : (c : tie.After-some-long) → let s = c .before .before .before .before .before in
-    c .some-long .result ≡ long (s .args .patch) (s .args .a) along-t
-found-t c =
-    let s = c .before .before .before in
-    let i = s .before .before .pre in
-    searched (i .0) (i .1) along-t (s .start-surface .ensures) (s .before .scale .ensures) (add-one _) refl
-    (c .before .before .along-t .ensures) (c .some-long .ensures)
-
 returns : tie.Need-returns
 unfolding longAlong
 returns c = c .if1 .taken ∙ sym (rw (sym (found-t (c .before)) ∙ c .if1 .taken) refl)
@@ -78,12 +86,7 @@ returns c = c .if1 .taken ∙ sym (rw (sym (found-t (c .before)) ∙ c .if1 .tak
 returns-2 : tie.Need-returns-2
 unfolding longAlong
 returns-2 c =
-    let b = c .before .before .before in
-    let s = b .before .before .before .before in
-    let i = s .before .before .pre in
-    searched (i .0) (i .1) along-u (s .start-surface .ensures) (s .before .scale .ensures) refl (add-one _)
-    (c .before .before .along-u .ensures) (c .some-long2 .ensures) ∙
-    sym (rw (sym (found-t (b .before)) ∙ b .if1 .left) refl)
+    let b = c .before .before .before in found-u c ∙ sym (rw (sym (found-t (b .before)) ∙ b .if1 .left) refl)
 
 pub step-too-long-along-spec : {M : Type 1} → statement M
 step-too-long-along-spec =

@@ -1,5 +1,6 @@
 -- `Surface::along_u` meets its contract: the first differences of each of the four cubics.
 use borrow.Author.Needs.{needs}
+use Rattle.surface.proofs.Parts.{same-cubics}
 use Rattle.surface.proofs.Surface.along_u.Statement.{statement}
 use Rattle.surface.proofs.Surface.along_u.Tie as tie
 
@@ -17,12 +18,11 @@ steps-requires-4 c κs = search needs
 
 returns : tie.Need-returns
 returns c =
-    rw (
-      c .before .before .before .steps .ensures,
-      c .before .before .steps2 .ensures,
-      c .before .steps3 .ensures,
-      c .steps4 .ensures,
-    )
+    same-cubics
+    (c .before .before .before .steps .ensures)
+    (c .before .before .steps2 .ensures)
+    (c .before .steps3 .ensures)
+    (c .steps4 .ensures)
 
 pub along-u-spec : {M : Type 1} → statement M
 along-u-spec =

@@ -1,5 +1,6 @@
 -- `Surface::next` meets its contract: equation 8 on each of the four cubics.
 use borrow.Author.Needs.{needs}
+use Rattle.surface.proofs.Parts.{same-cubics}
 use Rattle.surface.proofs.Surface.next.Statement.{statement}
 use Rattle.surface.proofs.Surface.next.Tie as tie
 
@@ -17,12 +18,11 @@ next-requires-4 c κs = search needs
 
 returns : tie.Need-returns
 returns c =
-    rw (
-      c .before .before .before .next .ensures,
-      c .before .before .next2 .ensures,
-      c .before .next3 .ensures,
-      c .next4 .ensures,
-    )
+    same-cubics
+    (c .before .before .before .next .ensures)
+    (c .before .before .next2 .ensures)
+    (c .before .next3 .ensures)
+    (c .next4 .ensures)
 
 pub next-spec : {M : Type 1} → statement M
 next-spec =
