@@ -20,11 +20,11 @@ clamped-most (negsuc k) most = omega arith
 pub rest-length : (l : List ℕ) (k : ℕ) → length (take (length l - k) (drop k l)) ≡ length l - k
 rest-length l k = ap length (take-all (length l - k) (drop k l) (omega (arith, length-drop k l))) ∙ length-drop k l
 
-pub reads-into : {before after : List ℕ} {count : ℕ} → Reads before count after → ReadInto before count after
+reads-into : {before after : List ℕ} {count : ℕ} → Reads before count after → ReadInto before count after
 reads-into none = record { same = refl; within = omega arith }
 reads-into (more {count} {held} {after} {got} reads one some) =
     let i = reads-into reads in
-    record { same = one .same ∙ i .same; within = omega (arith, clamped-most got (length held - count), i .same, i .within) }
+    record { same = one .same ∙ i .same; within = omega (arith, clamped-most got (length held - count)) }
 
 pub filled-into : {before after : List ℕ} {count : ℕ} {failed : Bool} → Filled before count failed after →
     ReadInto before count after

@@ -49,8 +49,11 @@ module _ (a : tie.After-answered Inv-loop μ-loop) where
 
   -- What the read's answer says, of the bytes that were left.
   says : a .answered .result ≡ inputOf (read .read-at .result) (length (at .loop .buf) - at .loop .done)
-  says = a .answered .ensures ∙ ap₂ inputOf (toZ-ofZ {w = w64} {z = read .read-at .result} (record { sfits = read .read-at .ok }))
-      (rest-length (read .read-at .last .1 .0) (at .loop .done) ∙ ap (_- at .loop .done) (read .read-at .ensures .same))
+  says =
+      let r = read .read-at in
+      a .answered .ensures ∙
+      ap₂ inputOf (toZ-ofZ {w = w64} {z = r .result} (record { sfits = r .ok }))
+      (rest-length (r .last .1 .0) (at .loop .done) ∙ ap (_- at .loop .done) (r .ensures .same))
 
   room : at .loop .done + a .answered .result .count ≤ length (at .loop .buf)
   room =

@@ -32,12 +32,13 @@ returns : tie.Need-returns
 returns c =
     let r = c .before .before .read in
     let start = c .before .before .before .before .before in
+    let same = toZ-ofZ {w = w64} {z = r .result} (record { sfits = r .ok }) in
     let buf : List ℕ = now (start .args .buf) in
     let at : ℕ = start .args .at in
     record {
       same = search needs;
       kept = take-put at (length buf - at) buf (r .last .1 .0) (start .pre);
-      moved = rw (toZ-ofZ {w = w64} {z = r .result} (record { sfits = r .ok })) (subst (λ (n : ℕ). Moved n (r .result)) (rest-length buf at) (r .ensures));
+      moved = rw same (subst (λ (n : ℕ). Moved n (r .result)) (rest-length buf at) (r .ensures));
     }
 
 pub read-at-spec : {M : Type 1} → statement M
