@@ -278,8 +278,8 @@ def refusals(cases):
     for numbers, lines in BAD_SIDES.items():
         for line, after in product(lines, (b"", STROKE * 2)):
             cases.add(line + after, numbers[0], 1)
-    for (way, a), b in product(product(range(2), FAULTS), FAULTS):
-        between = STROKE * (way + len(cases.records) % 2)
+    for k, ((way, a), b) in enumerate(product(product(range(2), FAULTS), FAULTS), 1):
+        between = STROKE * (way + k % 2)
         cases.add(SIDE + CELL * way + faulty([a], way) + between + faulty([b], 1 - way) + CELL, a, 2 + way)
     for way, number, a in product(range(2), SIDE_NUMBERS, FAULTS):
         cases.add(BAD_SIDES[number,][way] + STROKE * way + faulty([a], 1), number, 1)

@@ -23,7 +23,7 @@ pub struct Block {
 // failure.
 pub fn read_records(records: &mut [u8], width: usize) -> Block
     requires { ⌜ 0 < width ⌝ }
-    ensures { λ r. ⌜ ReadInto (now (records .entry)) 0 (r .count * width) (now (records .exit)) ⌝ }
+    ensures { λ r. ⌜ ReadInto (now (records .entry)) (r .count * width) (now (records .exit)) ⌝ }
 {
     let input = reading::fill(libc::STDIN_FILENO, records);
     let count = input.count / width;
@@ -60,7 +60,7 @@ pub fn write_answers(answers: &[u8], bytes: usize, then: Progress) -> Progress
 
 // Whether to go on. Once the input has ended and all of it is answered, END is written, so what a failed read or write
 // cuts short shows.
-pub fn goes_on(progress: Progress) -> bool
+pub(crate) fn goes_on(progress: Progress) -> bool
     ensures { λ r. ⌜ r ≡ isMore progress ⌝ }
 {
     match progress {

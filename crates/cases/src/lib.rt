@@ -4,5 +4,8 @@
 // the record of a number is found without a search.
 pub mod answer;
 pub mod block;
+pub mod bytes;
+pub mod digest;
 pub mod input;
 pub mod record;
+pub mod turns;

@@ -4,22 +4,17 @@ ghost use Prim.Native.Nat.{_^_, _≤_, _<_};
 ghost use lib.ListN.{length};
 use crate::answer::Answer;
 use crate::answer::holding;
-use crate::answer::wide;
-use crate::calls::low_byte;
+use cases::bytes::low_byte;
+use cases::bytes::wide;
 use cases::record::number;
 
 // Fills the lent bytes.
 pub(crate) fn fill(case: &[u8], lent: &mut [u8]) -> Answer
     requires { ⌜ length (now case) ≡ 190 ⌝ }
 {
+    let first = low_byte(number(case, 0));
     let step = low_byte(number(case, 1));
-    let mut byte = low_byte(number(case, 0));
-    let mut i = 0;
-    while i < lent.len() {
-        lent[i] = byte;
-        byte = std::num::wrapping_add_u8(byte, step);
-        i += 1;
-    }
+    cases::bytes::fill(lent, first, step);
     holding(b'F', 0, lent)
 }
 

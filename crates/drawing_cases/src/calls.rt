@@ -4,6 +4,7 @@ ghost use Prim.Native.Nat.{_≤_};
 ghost use lib.ListN.{length};
 use crate::answer::Answer;
 use crate::answer::holding;
+use cases::bytes::low_byte;
 use cases::record::number;
 use curve::Curve;
 use decide::Verdict;
@@ -68,9 +69,4 @@ fn put_points(case: &[u8], points: &mut [u8])
         };
         i += 1;
     }
-}
-
-// The last eight bits of a number.
-pub(crate) fn low_byte(n: u32) -> u8 {
-    (n % 256) as u8
 }

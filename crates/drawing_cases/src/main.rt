@@ -36,16 +36,13 @@ use calls::curve_of;
 use calls::patch_of;
 use cases::block::Progress;
 use cases::record::number;
+use cases::turns::Turns;
 
-// A loop has to end, and nothing says that the input does: it counts down from a number that no run uses up.
 fn main() {
     let mut buffer = [0u8; 262144];
-    let mut turns = u64::MAX;
-    while turns > 0 {
-        if !cases::block::goes_on(answer_block(&mut buffer)) {
-            return;
-        }
-        turns -= 1;
+    let mut turns = Turns::all();
+    while turns.left > 0 {
+        turns = turns.after(answer_block(&mut buffer));
     }
 }
 

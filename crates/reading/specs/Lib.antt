@@ -1,2 +1,2 @@
--- `Read`: what a read leaves of the buffer that it fills.
+-- `Read`: what one read answers and leaves of the buffer, and reads one after the other.
 pub mod Read

@@ -12,32 +12,32 @@
 //     R number line held printed               refused
 //
 // where held are three numbers for what the lent bytes hold afterwards, and printed three for the listing, or the refusal
-// line, of this answer (`digest::Digest`). The listing is made plane by plane, or, if part is not 0, in parts of so many
+// line, of this answer (`cases::digest::Digest`, begun with 1). The listing is made plane by plane, or, if part is not 0, in parts of so many
 // places.
 //
 // A heading has 5 numbers, hence 46 bytes, and an answer 8, hence 74 bytes.
-mod digest;
 mod printed;
 
 ghost use mathlib.Core.Path.{_≡_};
 ghost use lib.ListN.{length};
 use cases::block::Progress;
+use cases::bytes::fill;
+use cases::bytes::low_byte;
+use cases::digest::Digest;
+use cases::digest::begun;
+use cases::digest::eight;
+use cases::digest::extended;
 use cases::input::read_bytes;
 use cases::input::read_heading;
 use cases::record::number;
-use digest::Digest;
-use digest::eight;
+use cases::turns::Turns;
 use sheet_cube::Answer;
 
-// A loop has to end, and nothing says that the input does: it counts down from a number that no run uses up.
 fn main() {
     let mut buffer = [0u8; 65536];
-    let mut turns = u64::MAX;
-    while turns > 0 {
-        if !cases::block::goes_on(answer_next(&mut buffer)) {
-            return;
-        }
-        turns -= 1;
+    let mut turns = Turns::all();
+    while turns.left > 0 {
+        turns = turns.after(answer_next(&mut buffer));
     }
 }
 
@@ -91,17 +91,12 @@ fn answer_lent(heading: &[u8], sheet: &mut [u8], text: &mut [u8], lent: &mut [u8
     }
 }
 
-// Fills the lent bytes, draws the sheet and writes the answer.
+// Draws the sheet and writes the answer.
 fn answer_sheet(heading: &[u8], sheet: &[u8], text: &mut [u8], lent: &mut [u8]) -> Progress
     requires { ⌜ (length (now heading) ≡ 46) × (length (now text) ≡ 33621) ⌝ }
 {
-    fill(
-        lent,
-        low_byte(number(heading, 1)),
-        low_byte(number(heading, 2)),
-    );
-    let answer = sheet_cube::draw_sheet(sheet, lent);
-    let held = digest::extended(digest::empty(), lent);
+    let answer = draw_filled(heading, sheet, lent);
+    let held = extended(begun(1), lent);
     let printed = printed::printed(answer, lent, number(heading, 3), text);
     match answer {
         Answer::Drawn(size) => write_answer(b'A', size.side, size.curves, held, printed),
@@ -111,20 +106,16 @@ fn answer_sheet(heading: &[u8], sheet: &[u8], text: &mut [u8], lent: &mut [u8]) 
     }
 }
 
-// Byte i becomes first + step × i, modulo 256.
-fn fill(lent: &mut [u8], first: u8, step: u8) {
-    let mut byte = first;
-    let mut i = 0;
-    while i < lent.len() {
-        lent[i] = byte;
-        byte = std::num::wrapping_add_u8(byte, step);
-        i += 1;
-    }
-}
-
-// The last eight bits of a number.
-fn low_byte(n: u32) -> u8 {
-    (n % 256) as u8
+// Fills the lent bytes and draws the sheet.
+fn draw_filled(heading: &[u8], sheet: &[u8], lent: &mut [u8]) -> Answer
+    requires { ⌜ length (now heading) ≡ 46 ⌝ }
+{
+    fill(
+        lent,
+        low_byte(number(heading, 1)),
+        low_byte(number(heading, 2)),
+    );
+    sheet_cube::draw_sheet(sheet, lent)
 }
 
 // Writes an answer record, and says how it goes on.

@@ -3,9 +3,9 @@ ghost use mathlib.Core.Path.{_≡_};
 ghost use Prim.Native.Nat.{_≤_, _<_, _^_};
 ghost use lib.ListN.{length};
 ghost use Rattle.cube.specs.Cube.{volume};
-use crate::digest::Digest;
-use crate::digest::empty;
-use crate::digest::extended;
+use cases::digest::Digest;
+use cases::digest::begun;
+use cases::digest::extended;
 use sheet_cube::Answer;
 use sheet_text::Written;
 
@@ -16,7 +16,7 @@ pub(crate) fn printed(answer: Answer, lent: &[u8], part: u32, text: &mut [u8]) -
     match answer {
         Answer::Drawn(size) => listed(size.side, lent, part as usize, text),
         Answer::Refused(refusal) => after(
-            empty(),
+            begun(1),
             sheet_text::refusal_line(refusal.number, refusal.line, text),
             text,
         ),
@@ -29,14 +29,14 @@ fn listed(side: u32, lent: &[u8], part: usize, text: &mut [u8]) -> Digest
     requires { ⌜ length (now text) ≡ 33621 ⌝ }
 {
     if side < 2 {
-        return empty();
+        return begun(1);
     }
     if 40 < side {
-        return empty();
+        return begun(1);
     }
     let bytes = sheet_cube::cells(side);
     if lent.len() < bytes {
-        return empty();
+        return begun(1);
     }
     if part == 0 {
         by_planes(side, &lent[..bytes], text)
@@ -51,7 +51,7 @@ fn by_planes(side: u32, cube: &[u8], text: &mut [u8]) -> Digest
     requires { ⌜ length (now text) ≡ 33621 ⌝ }
 {
     let end = side as usize;
-    let mut digest = empty();
+    let mut digest = begun(1);
     let mut z = 0;
     while z < end {
         let planes = sheet_listing::list_planes(side, cube, z, text);
@@ -64,7 +64,7 @@ fn by_planes(side: u32, cube: &[u8], text: &mut [u8]) -> Digest
 fn by_parts(side: u32, cube: &[u8], part: usize, text: &mut [u8]) -> Digest
     requires { ⌜ (0 < part) × (part < 2 ^ 32) ⌝ }
 {
-    let mut digest = empty();
+    let mut digest = begun(1);
     let mut first = 0;
     while first < cube.len() {
         let written = sheet_listing::list_part(side, cube, first, part, text);

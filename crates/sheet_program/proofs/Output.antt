@@ -1,4 +1,5 @@
--- What is written, in turn, is the output of the input.
+-- Of the parts alone: the planes that `list_planes` lists in turn, put together, and a refusal line are the output of
+-- the input. No function's proof cites these laws, since no contract can say what is written.
 use mathlib.Core.Path.{_≡_, refl, sym, _∙_, ap}
 use mathlib.Core.List.{List, [], _∷_, _++_}
 use Prim.Native.Nat.{ℕ, _-_, _+_, _*_, _≤_, _<_}

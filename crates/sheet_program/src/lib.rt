@@ -7,6 +7,7 @@ ghost use Prim.Native.Nat.{_≤_};
 ghost use lib.ListN.{length};
 ghost use Rattle.sheet_program.specs.Draws.{DrawsOrRefuses};
 ghost use Rattle.sheet_program.specs.Totals.{WritesTotals};
+pub use print::print_sheet;
 use sheet_cube::Answer;
 
 // What a program prints of a sheet's cube.
@@ -63,7 +64,7 @@ pub fn run(name: &[u8], report: Report) {
         return;
     }
     let count = read.count;
-    if !print::print_sheet(&input[..count], report) {
+    if !print_sheet(&input[..count], report) {
         tell(name, b": the output cannot be written, or not all of it\n");
     }
 }

@@ -17,6 +17,7 @@ ghost use Prim.Native.Nat.{_*_, _≤_};
 ghost use lib.ListN.{length};
 ghost use lib.Ieee.{binary32, ofBits, toBits};
 use cases::block::Progress;
+use cases::turns::Turns;
 use channel::Rgb;
 use hsv::Hsv;
 use swatch::CellAnswer;
@@ -30,14 +31,10 @@ struct Answer {
     numbers: [u32; 3],
 }
 
-// A loop has to end, and nothing says that the input does: it counts down from a number that no run uses up.
 fn main() {
-    let mut turns = u64::MAX;
-    while turns > 0 {
-        if !cases::block::goes_on(answer_block()) {
-            return;
-        }
-        turns -= 1;
+    let mut turns = Turns::all();
+    while turns.left > 0 {
+        turns = turns.after(answer_block());
     }
 }
 

@@ -3,6 +3,7 @@ use borrow.Author.Needs.{needs}
 use mathlib.Core.Path.{sym}
 use native.Mathlib.Omega.{arith}
 use lib.Seq.{length-take-le}
+use Rattle.reading.proofs.Filled.{filled-into}
 use Rattle.sheet_program.proofs.run.Statement.{statement}
 use Rattle.sheet_program.proofs.run.Tie as tie
 
@@ -22,11 +23,12 @@ returns : tie.Need-returns
 returns c = search needs
 
 array-share-prefix-input : tie.Need-array-share-prefix-input
-array-share-prefix-input c = search needs
+array-share-prefix-input c =
+    let f = filled-into (c .before .before .fill .ensures) in omega (arith, f .within, f .same)
 
 slice-aggregate-print-sheet : tie.Need-slice-aggregate-print-sheet
 slice-aggregate-print-sheet c =
-    let f = c .before .before .before .fill .ensures in sym (length-take-le _ _ (omega (arith, f .within, f .same)))
+    sym (length-take-le _ _ (array-share-prefix-input (c .before)))
 
 print-sheet-requires : tie.Need-print-sheet-requires
 print-sheet-requires c κs = search needs

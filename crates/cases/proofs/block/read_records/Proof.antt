@@ -1,16 +1,20 @@
 -- `read_records` meets its contract: whole records of the bytes read lie within the buffer.
+use mathlib.Core.Bool.{Bool}
 use mathlib.Core.List.{List}
 use Prim.Native.Nat.{ℕ, _*_, _/_}
 use native.Mathlib.Nat.{div-mul-le-self}
 use native.Mathlib.Omega.{arith}
-use Rattle.reading.specs.Read.{ReadInto}
+use Rattle.reading.specs.Read.{Filled, ReadInto}
+use Rattle.reading.proofs.Filled.{filled-into}
 use borrow.Author.Needs.{needs}
 use Rattle.cases.proofs.block.read_records.Statement.{statement}
 use Rattle.cases.proofs.block.read_records.Tie as tie
 
 -- Of n bytes read, those of whole records.
-whole : {before after : List ℕ} (n width : ℕ) → ReadInto before 0 n after → ReadInto before 0 (n / width * width) after
-whole n width r = record { same = r .same; within = omega (arith, div-mul-le-self n width, r .within) }
+whole : {before after : List ℕ} {failed : Bool} (n width : ℕ) → Filled before n failed after →
+    ReadInto before (n / width * width) after
+whole n width f =
+    let r = filled-into f in record { same = r .same; within = omega (arith, div-mul-le-self n width, r .within) }
 
 fill-requires : tie.Need-fill-requires
 fill-requires c κs = search needs

@@ -13,8 +13,8 @@ Inv-loop side cube part text₀ digest₀ first₀ text digest first = length te
 abbrev μ-loop : tie.MeasureT-loop
 μ-loop side cube part text₀ digest₀ first₀ text digest first = length cube - first
 
-empty-requires : tie.Need-empty-requires Inv-loop μ-loop
-empty-requires c κs = tt
+begun-requires : tie.Need-begun-requires Inv-loop μ-loop
+begun-requires c κs = tt
 
 loop-holds : tie.Need-loop-holds Inv-loop μ-loop
 loop-holds c = omega arith
@@ -46,7 +46,7 @@ by-parts-spec =
     (tie.spec
     Inv-loop
     μ-loop
-    empty-requires
+    begun-requires
     loop-holds
     list-part-requires
     after-requires

@@ -13,8 +13,8 @@ Inv-loop side cube text₀ end digest₀ z₀ text digest z = (length text ≡ l
 abbrev μ-loop : tie.MeasureT-loop
 μ-loop side cube text₀ end digest₀ z₀ text digest z = end - z
 
-empty-requires : tie.Need-empty-requires Inv-loop μ-loop
-empty-requires c κs = tt
+begun-requires : tie.Need-begun-requires Inv-loop μ-loop
+begun-requires c κs = tt
 
 loop-holds : tie.Need-loop-holds Inv-loop μ-loop
 loop-holds c = omega arith
@@ -43,7 +43,7 @@ by-planes-spec =
     (tie.spec
     Inv-loop
     μ-loop
-    empty-requires
+    begun-requires
     loop-holds
     list-planes-requires
     after-requires

@@ -5,14 +5,14 @@ use borrow.Author.Needs.{needs}
 use Rattle.sheet_cases.proofs.printed.listed.Statement.{statement}
 use Rattle.sheet_cases.proofs.printed.listed.Tie as tie
 
-empty-requires : tie.Need-empty-requires
-empty-requires c κs = search needs
+begun-requires : tie.Need-begun-requires
+begun-requires c κs = search needs
 
 returns : tie.Need-returns
 returns c = search needs
 
-empty-requires-2 : tie.Need-empty-requires-2
-empty-requires-2 c κs = search needs
+begun-requires-2 : tie.Need-begun-requires-2
+begun-requires-2 c κs = search needs
 
 returns-2 : tie.Need-returns-2
 returns-2 c = search needs
@@ -20,8 +20,8 @@ returns-2 c = search needs
 cells-requires : tie.Need-cells-requires
 cells-requires c κs = search needs
 
-empty-requires-3 : tie.Need-empty-requires-3
-empty-requires-3 c κs = search needs
+begun-requires-3 : tie.Need-begun-requires-3
+begun-requires-3 c κs = search needs
 
 returns-3 : tie.Need-returns-3
 returns-3 c = search needs
@@ -54,12 +54,12 @@ pub listed-spec : {M : Type 1} → statement M
 listed-spec =
     tie.close
     (tie.spec
-    empty-requires
+    begun-requires
     returns
-    empty-requires-2
+    begun-requires-2
     returns-2
     cells-requires
-    empty-requires-3
+    begun-requires-3
     returns-3
     slice-aggregate-by-planes
     by-planes-requires

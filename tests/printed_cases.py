@@ -1,19 +1,23 @@
-"""Writes stored sheets and the totals expected of each, by the separate model of documents 01 and 02.
+"""Writes stored sheets and what the sheet programs print for each, by the separate model of documents 01 and 02.
 
-`python3 tests/totals_cases.py` writes crates/totals_cases/stdin and stdout; with `--check` it writes nothing and exits
-with 1 if they are not what it would write; with `--count` it prints how many sheets are of each kind.  A case is a
-heading, which has the sheet's length, and then the sheet; its answer is what the totals program prints for that sheet.
+`python3 tests/printed_cases.py` writes crates/printed_cases/stdin and stdout; with `--check` it writes nothing and exits
+with 1 if they are not what it would write; with `--count` it prints how many cases are of each kind.  A case is a
+heading, which has the report and the sheet's length, and then the sheet; its answer is all that the sheet program, or
+the totals program, prints for that sheet.
 """
 
 import random
 import sys
+from collections import Counter
 from itertools import product
 
 import sheets
-from model import BUFFER_LENGTH, CURVE_LINES, draw_sheet, format_line, sheet_lines, totals_printed
-from sheets import CELL, LONGEST, SIDE, STROKE, faulty, with_field
+from model import BUFFER_LENGTH, CURVE_LINES, draw_sheet, format_line, sheet_lines, sheet_printed, totals_printed
+from sheets import CELL, CURVE_NUMBERS, LONGEST, SIDE, SIDE_NUMBERS, STROKE, faulty, with_field
 from stored import case_record
 
+LISTING, TOTALS = REPORTS = 0, 1
+TEXT, CELL_LINE = 65536, 21  # bytes of the text that a listing is written from, and of a cell's line
 LINE = 51  # bytes of a mark's line
 FULL = 2, 3, 4, 5, 14  # sides of cubes filled row by row: 14 × 14 rows are still not above 200
 
@@ -29,6 +33,11 @@ WANTED = (
     *(f"a {column} of {digits} digits" for column, most in (("count", 5), ("sum", 7)) for digits in range(1, most + 1)),
     *(f"a mark's {what}" for what in ("count above 15000", "sum above 300000")),
     "sums of x, y and z that all differ",
+    *(f"a listing of {writes}" for writes in ("1 write", "2 writes", "3 writes or more", "10 writes or more")),
+    *(f"a listing of side {side}" for side in range(2, 41)),
+    *(f"a listing with every cell of plane {z} of side 40 marked" for z in (0, 1, 2, 20, 39)),
+    *("a listing without a cell", "a listing of the empty input"),
+    *(f"a listing refused by {number}" for number in sorted({*SIDE_NUMBERS, *CURVE_NUMBERS})),
 )
 
 
@@ -68,23 +77,60 @@ def totals_kinds(sheet, answer, printed):
             yield f"one mark in every cell, side {answer.side}"
 
 
-def kinds(sheet, answer, printed):
-    """Every kind of which a sheet and its totals are an example."""
+def listing_writes(side, planes):
+    """How many writes a listing takes, by the number of marked cells in each plane.
+
+    A write has whole planes, as many as the text has room for with every cell of the next plane marked.
+    """
+    room, count, held = CELL_LINE * (side * side + 1), 0, TEXT
+    for z in range(side):
+        if TEXT - held < room:
+            count, held = count + 1, 0
+        held += CELL_LINE * (planes[z] + (z == 0))
+    return count
+
+
+def listing_kinds(sheet, answer, printed):
+    """Every kind of which a listing is an example."""
+    if answer.refusal is not None:
+        yield f"a listing refused by {answer.refusal}"
+        if not sheet:
+            yield "a listing of the empty input"
+        return
+    yield f"a listing of side {answer.side}"
+    planes = Counter(int(line[10:15]) for line in sheet_lines(printed)[1:])
+    if not planes:
+        yield "a listing without a cell"
+    if answer.side == 40:
+        full = (z for z, count in planes.items() if count == 1600)
+        yield from (f"a listing with every cell of plane {z} of side 40 marked" for z in full)
+    writes = listing_writes(answer.side, planes)
+    if writes < 3:
+        yield f"a listing of {writes} write{'s' if writes > 1 else ''}"
+    yield from (f"a listing of {least} writes or more" for least in (3, 10) if writes >= least)
+
+
+def kinds(sheet, answer, report, printed):
+    """Every kind of which a sheet and what is printed of it are an example."""
     yield from sheets.kinds(sheet, answer)
-    if answer.refusal is None:
+    if report == LISTING:
+        yield from listing_kinds(sheet, answer, printed)
+    elif answer.refusal is None:
         yield from totals_kinds(sheet, answer, printed)
 
 
 class Cases(sheets.Cases):
-    """The cases of the totals program."""
+    """The cases of what is printed."""
 
-    def add(self, sheet, *expected, kind=None):
-        """A sheet, its answer, which begins as expected, and what is printed."""
+    def add(self, sheet, *expected, kind=None, reports=REPORTS):
+        """A sheet, its answer, which begins as expected, and what is printed of it by each report."""
         answer = draw_sheet(sheet, bytes(BUFFER_LENGTH))
         assert answer[: len(expected)] == expected
-        printed = totals_printed(answer)
-        heading = case_record("T", (len(sheet),), 1)
-        self.keep((heading + sheet.decode("latin-1"), printed.decode()), kinds(sheet, answer, printed), kind)
+        for report in reports:
+            printed = (sheet_printed, totals_printed)[report](answer)
+            heading = case_record("P", (report, len(sheet)), 2)
+            case = heading + sheet.decode("latin-1"), printed.decode()
+            self.keep(case, kinds(sheet, answer, report, printed), kind)
         return answer
 
 
@@ -96,9 +142,9 @@ def dot(mark, cell):
     return format_line(mark, 1, *cell * 4)
 
 
-def add_strokes(cases, side, strokes):
+def add_strokes(cases, side, strokes, reports=REPORTS):
     """A sheet of good strokes."""
-    return cases.add(format_line(side) + b"".join(strokes), None, None, side)
+    return cases.add(format_line(side) + b"".join(strokes), None, None, side, reports=reports)
 
 
 def single_cells(cases, dice):
@@ -139,10 +185,14 @@ def rows(cases):
 
 
 def dense_cubes(cases):
-    """The fullest cube of side 40, with one mark and with two."""
+    """The fullest cube of side 40, with one mark and with two, as totals; and full planes of it, as a listing."""
     for marks in (b"255",), (b"1", b"255"):
         strokes = enumerate(sheets.dense_strokes())
-        add_strokes(cases, 40, (with_field(line, 0, marks[k % len(marks)]) for k, line in strokes))
+        lines = (with_field(line, 0, marks[k % len(marks)]) for k, line in strokes)
+        add_strokes(cases, 40, lines, reports=(TOTALS,))
+    along = product((0, 1, 2, 20, 39), range(40))
+    lines = (format_line(56 + k, 117, *(0, y, z) * 2, *(39, y, z) * 2) for k, (z, y) in enumerate(along))
+    add_strokes(cases, 40, lines, reports=(LISTING,))
 
 
 def long_sheets(cases):
@@ -164,7 +214,7 @@ def main():
     for part in painted_over, rows, dense_cubes, long_sheets:
         part(cases)
     sheets.random_sheets(cases, dice, good=3, changed=2)
-    return cases.store("totals_cases", WANTED)
+    return cases.store("printed_cases", WANTED)
 
 
 if __name__ == "__main__":

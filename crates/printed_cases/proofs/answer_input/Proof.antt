@@ -2,8 +2,8 @@
 use borrow.Author.Needs.{needs}
 use native.Mathlib.Omega.{arith}
 use lib.ListN.{length-take}
-use Rattle.totals_cases.proofs.answer_input.Statement.{statement}
-use Rattle.totals_cases.proofs.answer_input.Tie as tie
+use Rattle.printed_cases.proofs.answer_input.Statement.{statement}
+use Rattle.printed_cases.proofs.answer_input.Tie as tie
 
 read-heading-requires : tie.Need-read-heading-requires
 read-heading-requires c κs = search needs
@@ -13,6 +13,9 @@ enum-told c = search needs
 
 number-requires : tie.Need-number-requires
 number-requires c κs = search needs
+
+number-requires-2 : tie.Need-number-requires-2
+number-requires-2 c κs = search needs
 
 cast-count : tie.Need-cast-count
 cast-count c = search needs
@@ -38,14 +41,11 @@ same-length-2 c = search needs
 same-length-3 : tie.Need-same-length-3
 same-length-3 c = search needs
 
-same-length-4 : tie.Need-same-length-4
-same-length-4 c = search needs
-
 returns-2 : tie.Need-returns-2
 returns-2 c = search needs
 
-same-length-5 : tie.Need-same-length-5
-same-length-5 c = search needs
+same-length-4 : tie.Need-same-length-4
+same-length-4 c = search needs
 
 returns-3 : tie.Need-returns-3
 returns-3 c = search needs
@@ -57,6 +57,7 @@ answer-input-spec =
     read-heading-requires
     enum-told
     number-requires
+    number-requires-2
     cast-count
     same-length
     returns
@@ -65,7 +66,6 @@ answer-input-spec =
     answer-sheet-requires
     same-length-2
     same-length-3
-    same-length-4
     returns-2
-    same-length-5
+    same-length-4
     returns-3)

@@ -1,16 +1,17 @@
--- `holding` is safe and ends: a remainder stays below its prime, so times 256 it leaves room for a byte.
+-- `extended` is safe and ends: a remainder stays below its prime, so times 256 it leaves room for a byte.
 use mathlib.Core.Logic.{⊎-elim}
 use Prim.Native.Nat.{_-_, _≤_, _<_}
 use native.Mathlib.Omega.{arith}
 use lib.ListN.{length}
-use Rattle.drawing_cases.proofs.answer.holding.Statement.{statement}
-use Rattle.drawing_cases.proofs.answer.holding.Tie as tie
+use Rattle.cases.proofs.digest.extended.Statement.{statement}
+use Rattle.cases.proofs.digest.extended.Tie as tie
 
 abbrev Inv-loop : tie.InvT-loop
-Inv-loop letter number lent marked₀ first₀ second₀ i₀ marked first second i = (i ≤ length lent) × (marked ≤ i) × (first < 99999989) × (second < 99999959)
+Inv-loop bytes marked₀ first₀ second₀ i₀ marked first second i =
+    (i ≤ length bytes) × (marked < 100000000) × (first < 99999989) × (second < 99999959)
 
 abbrev μ-loop : tie.MeasureT-loop
-μ-loop letter number lent marked₀ first₀ second₀ i₀ marked first second i = length lent - i
+μ-loop bytes marked₀ first₀ second₀ i₀ marked first second i = length bytes - i
 
 loop-holds : tie.Need-loop-holds Inv-loop μ-loop
 loop-holds c = omega arith
@@ -45,20 +46,11 @@ loop-less c = omega arith
 loop-again : tie.Need-loop-again Inv-loop μ-loop
 loop-again c = ⊎-elim (λ w. omega arith) (λ w. omega arith) (c .if1 .came)
 
-eight-requires : tie.Need-eight-requires Inv-loop μ-loop
-eight-requires c κs = tt
-
-eight-requires-2 : tie.Need-eight-requires-2 Inv-loop μ-loop
-eight-requires-2 c κs = tt
-
-eight-requires-3 : tie.Need-eight-requires-3 Inv-loop μ-loop
-eight-requires-3 c κs = tt
-
 returns : tie.Need-returns Inv-loop μ-loop
 returns c = tt
 
-pub holding-spec : {M : Type 1} → statement M
-holding-spec =
+pub extended-spec : {M : Type 1} → statement M
+extended-spec =
     tie.close
     (tie.spec
     Inv-loop
@@ -74,7 +66,4 @@ holding-spec =
     add-i
     loop-less
     loop-again
-    eight-requires
-    eight-requires-2
-    eight-requires-3
     returns)

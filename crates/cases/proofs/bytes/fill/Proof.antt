@@ -4,26 +4,14 @@ use Prim.Native.Nat.{_-_, _≤_}
 use native.Mathlib.Omega.{arith}
 use borrow.Author.Needs.{needs}
 use lib.ListN.{length, length-set}
-use Rattle.drawing_cases.proofs.bytes.fill.Statement.{statement}
-use Rattle.drawing_cases.proofs.bytes.fill.Tie as tie
+use Rattle.cases.proofs.bytes.fill.Statement.{statement}
+use Rattle.cases.proofs.bytes.fill.Tie as tie
 
 abbrev Inv-loop : tie.InvT-loop
-Inv-loop case lent₀ step byte₀ i₀ lent byte i = (length lent ≡ length lent₀) × (i ≤ length lent)
+Inv-loop lent₀ first step byte₀ i₀ lent byte i = (length lent ≡ length lent₀) × (i ≤ length lent)
 
 abbrev μ-loop : tie.MeasureT-loop
-μ-loop case lent₀ step byte₀ i₀ lent byte i = length lent - i
-
-number-requires : tie.Need-number-requires Inv-loop μ-loop
-number-requires c κs = omega arith
-
-low-byte-requires : tie.Need-low-byte-requires Inv-loop μ-loop
-low-byte-requires c κs = tt
-
-number-requires-2 : tie.Need-number-requires-2 Inv-loop μ-loop
-number-requires-2 c κs = omega arith
-
-low-byte-requires-2 : tie.Need-low-byte-requires-2 Inv-loop μ-loop
-low-byte-requires-2 c κs = tt
+μ-loop lent₀ first step byte₀ i₀ lent byte i = length lent - i
 
 loop-holds : tie.Need-loop-holds Inv-loop μ-loop
 loop-holds c = omega arith
@@ -43,9 +31,6 @@ loop-less c = simp length-set (omega arith)
 loop-again : tie.Need-loop-again Inv-loop μ-loop
 loop-again c = simp length-set (omega arith)
 
-holding-requires : tie.Need-holding-requires Inv-loop μ-loop
-holding-requires c κs = tt
-
 same-length : tie.Need-same-length Inv-loop μ-loop
 same-length c = search needs
 
@@ -58,16 +43,11 @@ fill-spec =
     (tie.spec
     Inv-loop
     μ-loop
-    number-requires
-    low-byte-requires
-    number-requires-2
-    low-byte-requires-2
     loop-holds
     slice-write-lent
     wrapping-add-u8-requires
     add-i
     loop-less
     loop-again
-    holding-requires
     same-length
     returns)

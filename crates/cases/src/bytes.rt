@@ -1,0 +1,24 @@
+// Single bytes, and the bytes that are lent to a call.
+ghost use Prim.Native.Nat.{_≤_};
+
+// Byte i becomes first + step × i, modulo 256.
+pub fn fill(lent: &mut [u8], first: u8, step: u8) {
+    let mut byte = first;
+    let mut i = 0;
+    while i < lent.len() {
+        lent[i] = byte;
+        byte = std::num::wrapping_add_u8(byte, step);
+        i += 1;
+    }
+}
+
+// The last eight bits of a number.
+pub fn low_byte(n: u32) -> u8 {
+    (n % 256) as u8
+}
+
+pub fn wide(b: u8) -> u64
+    ensures { λ r. ⌜ r ≤ 255 ⌝ }
+{
+    b as u64
+}

@@ -1,0 +1,2 @@
+-- `Filled`: what is read lies within the buffer.
+pub mod Filled
