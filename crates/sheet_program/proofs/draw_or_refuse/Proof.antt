@@ -6,11 +6,12 @@ use mathlib.Core.List.{List}
 use Prim.Native.Nat.{ℕ, _≤_}
 use native.Mathlib.Omega.{arith}
 use lib.ListN.{length}
+use Rattle.decide.specs.Refusal as refusal
 use Rattle.decide.specs.Refusal.{firstThat}
 use Rattle.sheet.specs.Sheet.{judge}
 use Rattle.sheet.specs.Printed.{refusalLine}
 use Rattle.sheet.specs.Call.{Said, drew, refused, said, bufferAfter}
-use Rattle.sheet.specs.Part.{lineOrder}
+use Rattle.sheet.specs.Part.{over, lineOrder}
 use Rattle.sheet.proofs.Sheet.{bad-small}
 use Rattle.sheet.proofs.Refused.{line-accepted}
 use Rattle.sheet_cube.specs.declared.Answer.{Answer}
@@ -18,7 +19,7 @@ use Rattle.sheet_cube.specs.Answer.{saidOf, DrawsSheet}
 use Rattle.sheet_cube.proofs.Drawing.{is-good}
 use Rattle.sheet_cube.proofs.Called.{buffer-good, is-bad}
 use Rattle.sheet_text.specs.declared.Written.{Written}
-use Rattle.sheet_text.specs.Writes as written
+use Rattle.sheet_text.specs.Writes.{Writes}
 use Rattle.sheet_program.specs.declared.Drawing.the-variants.{Cube, Line}
 use Rattle.sheet_program.specs.Draws.{drawingOf, textAfter, DrawsOrRefuses}
 use Rattle.sheet_program.proofs.draw_or_refuse.Statement.{statement}
@@ -40,7 +41,7 @@ module _ {input buffer bufferNow : List ℕ} {a : Answer} (d : DrawsSheet input 
 
   -- or it is refused, and the line is written.
   refuses : {n k : ℕ} → saidOf a ≡ refused n k → {text after : List ℕ} {w : Written} → 18 ≤ length text →
-      written.Writes (firstThat (lineOrder n k (length text))) (refusalLine n k) text after w →
+      Writes (firstThat (lineOrder n k (length text))) (refusalLine n k) text after w →
       DrawsOrRefuses input buffer bufferNow text after (Line 18)
   refuses {n} {k} e {text} room w =
       let j = sym (is-bad (judge input) (judged e)) in
@@ -49,7 +50,7 @@ module _ {input buffer bufferNow : List ℕ} {a : Answer} (d : DrawsSheet input 
       record {
         answer = ap drawingOf j;
         leaves = leaves;
-        writes = w .leaves ∙ ap (λ u. written.textAfter u (refusalLine n k) text) v ∙ ap (λ i. textAfter i text) j;
+        writes = w .leaves ∙ ap (λ u. refusal.leaves u (over (refusalLine n k) text) text) v ∙ ap (λ i. textAfter i text) j;
       }
 
 draw-sheet-requires : tie.Need-draw-sheet-requires
