@@ -1,4 +1,5 @@
-// Curves: checked, listed and drawn by Kaufman's FAST_CURVE.
+// Curves: checked, listed and drawn by Kaufman's FAST_CURVE. Open to callers: `check_curve`, `list_curve` and
+// `draw_curve`. Whatever else is `pub` is so for the crates above.
 
 pub mod samples;
 mod steps;

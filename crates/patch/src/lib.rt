@@ -1,4 +1,5 @@
-// Patches: checked and drawn by Kaufman's FAST_SURFACE.
+// Patches: checked and drawn by Kaufman's FAST_SURFACE. Open to callers: `check_patch` and `draw_patch`, the only functions
+// that are `pub`.
 mod rows;
 mod start;
 mod steps;

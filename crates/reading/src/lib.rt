@@ -1,4 +1,5 @@
-// Reading into a lent buffer, with the end of the input told from a failed read.
+// Reading into a lent buffer, with the end of the input told from a failed read. No function is open to callers: `fill`
+// is `pub` for the programs.
 ghost use mathlib.Core.Path.{_≡_};
 ghost use Prim.Native.Nat.{_≤_};
 ghost use lib.ListN.{length};

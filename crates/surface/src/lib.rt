@@ -1,6 +1,6 @@
 // One axis of a surface over two parameters, t and u, by its differences: equations 22 and 23. The first differences of
-// a surface along either parameter are a surface again, so one search finds the long steps along both. The functions
-// are inner ones, for the crates above.
+// a surface along either parameter are a surface again, so one search finds the long steps along both. No function is
+// open to callers: what is `pub` is so for the crates above.
 ghost use mathlib.Core.Path.{_≡_};
 ghost use Rattle.surface.specs.Surface.{SurfaceRoom, rowOf, nextSurface, stepsOf, alongT, alongU};
 ghost use Rattle.surface.specs.Surface.{Searchable, someLong};

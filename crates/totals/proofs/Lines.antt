@@ -7,7 +7,7 @@ use native.Mathlib.Omega.{arith}
 use lib.ListN.{length, length-append}
 use Rattle.sheet.specs.Line.{inLine}
 use Rattle.sheet.proofs.Printed.{length-inLine}
-use Rattle.totals.specs.Totals.{numbers, heldFrom, marks, markLines, totals}
+use Rattle.totals.specs.Totals.{numbers, heldFrom, markLines, totals}
 use Rattle.totals.proofs.Marks.{by-held, with-held, without}
 
 -- Lines and lines after them.
@@ -31,9 +31,6 @@ held-at-most m zero cube = omega arith
 held-at-most m (suc k) cube =
     let later = held-at-most (suc m) k cube in
     ⊎-elim (λ t. rw (with-held m k cube t) (omega arith)) (λ f. rw (without m k cube f) (omega arith)) (by-held cube m)
-
-pub lines-at-most : (S : ℕ) (cube : List ℕ) (m k : ℕ) → length (markLines S cube (heldFrom m k cube)) ≤ 51 * k
-lines-at-most S cube m k = rw length-lines (omega (arith, held-at-most m k cube))
 
 pub length-totals-at-most : (S : ℕ) (cube : List ℕ) → length (totals S cube) ≤ 13056
 unfolding totals

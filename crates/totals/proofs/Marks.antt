@@ -12,7 +12,7 @@ use lib.ListN.{length, getD}
 use Rattle.decide.specs.Some.{someOf}
 use Rattle.decide.proofs.Some.{some-of}
 use Rattle.decide.proofs.Truth.{either, both-false, decided, true-of, false-of, equal}
-use Rattle.totals.specs.Totals.{sumOver, count, isHeld, heldFrom, marks}
+use Rattle.totals.specs.Totals.{sumOver, count, isHeld, heldFrom}
 
 -- A mark is held if it stands at some byte.
 pub held-somewhere : (cube : List ℕ) (mark : ℕ) →
