@@ -1,1 +1,1 @@
-// The claims about the whole: statements in specs/, proofs in proofs/.
+// The claims about the whole: statements in specs/, proofs in proofs/, no functions.

@@ -1,6 +1,5 @@
 -- Line 202 is refused whatever it holds, so a refused sheet's line is line 202 at most, and its number is 44 at most.
 use mathlib.Core.Path.{_≡_, refl, subst}
-use mathlib.Core.Logic.{⊎-elim}
 use mathlib.Core.List.{List, [], _∷_, map}
 use Prim.Native.Nat.{ℕ, suc, _≤_, _<_}
 use native.Mathlib.Omega.{arith}
@@ -8,7 +7,7 @@ use lib.Dec.{ltb, lit≤}
 use borrow.Author.Tests.{ltb-false}
 use Rattle.decide.specs.Some.{someOf}
 use Rattle.decide.specs.Refusal.{Verdict, accepted, refused, firstThat, numbers}
-use Rattle.decide.proofs.Refusal.{by-verdict, accepted-passes, refused-most}
+use Rattle.decide.proofs.Refusal.{accepted-passes, refused-most}
 use Rattle.decide.proofs.Truth.{true-of, less}
 use Rattle.drawing.specs.Refusals.{order}
 use Rattle.sheet.specs.Line.{lines, number}

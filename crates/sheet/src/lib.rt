@@ -1,1 +1,1 @@
-// The stroke sheet: definitions and their laws.
+// The stroke sheet: definitions and their laws, no functions.
