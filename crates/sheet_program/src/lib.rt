@@ -1,5 +1,5 @@
 // What the sheet programs share: a sheet is read from standard input and drawn, and what is asked of its cube, or the
-// line that says why it is refused, is printed.
+// line that says why it is refused, is printed. All that is `pub` here is so for the programs above.
 mod print;
 
 ghost use mathlib.Core.Path.{_≡_};
