@@ -14,6 +14,7 @@ import sys
 import tempfile
 import termios
 import time
+from functools import lru_cache
 from pathlib import Path
 
 import sheets
@@ -167,7 +168,7 @@ def main():
     """Runs both programs; the exit status."""
     wrong = 0
     for name, output in PROGRAMS.items():
-        runs = Runs(Path(sys.argv[1]).resolve(), name)
+        runs, output = Runs(Path(sys.argv[1]).resolve(), name), lru_cache(maxsize=None)(output)
         whole_inputs(runs, output)
         several_reads(runs, output)
         failed_reads(runs)

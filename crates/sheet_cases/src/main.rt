@@ -12,8 +12,8 @@
 //     R number line held printed               refused
 //
 // where held are three numbers for what the lent bytes hold afterwards, and printed three for the listing, or the refusal
-// line, of this answer (`cases::digest::Digest`, begun with 1). The listing is made plane by plane, or, if part is not 0, in parts of so many
-// places.
+// line, of this answer: their digests (`cases::digest`), begun with 1. The listing is made plane by plane, or, if part is
+// not 0, in parts of so many places.
 //
 // A heading has 5 numbers, hence 46 bytes, and an answer 8, hence 74 bytes.
 mod printed;

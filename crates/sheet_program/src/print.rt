@@ -6,8 +6,8 @@ ghost use Rattle.cube.specs.Cube.{volume};
 use crate::Drawing;
 use crate::Report;
 
-// Prints the report of a sheet, or its refusal line; false if a write fails. Open to the programs above, one of which
-// prints stored sheets by it: no contract says what is written.
+// Prints the report of a sheet, or its refusal line; false if a write fails. No contract says what is written, so a
+// program above prints stored sheets by this function.
 pub fn print_sheet(input: &[u8], report: Report) -> bool {
     let mut buffer = [0u8; 64000];
     let mut text = [0u8; 65536];
