@@ -1,5 +1,5 @@
 -- The walk through a patch's rows. The walk along u through t = 0 gives each row's first cell and remainder, and the
--- surface beside it the row's differences along t; each row then walks along t.
+-- cubics beside it the row's differences along t; each row then walks along t.
 use mathlib.Core.Path.{_≡_, refl, _∙_, ap}
 use mathlib.Core.List.{List, [], _∷_, _++_, map, map-append, map-map, append-nil}
 use Prim.Native.Nat.{ℕ, zero, suc, _*_, _≤_, _<_, zero-le}
@@ -17,11 +17,12 @@ use Rattle.drawing.specs.Refusals.{Drawable, drawVerdict}
 use Rattle.drawing.specs.Drawing.{row, rows, samples, marked, cells, drawn}
 use Rattle.drawing.proofs.Samples.{rows-append, one-row}
 use Rattle.cubic.specs.Axis.{startOf}
-use Rattle.cubic.specs.Differences.{delta, differencesAt}
+use Rattle.cubic.specs.Differences.{delta, differencesAt, nextOf}
 use Rattle.cubic.specs.Room.{Room}
 use Rattle.cubic.specs.Tracks.{Doubles}
 use Rattle.cubic.proofs.Tracks.{start-tracks, row-tracks}
-use Rattle.surface.specs.Surface.{nextSurface}
+use Rattle.surface.specs.declared.Surface.{Surface}
+use Rattle.surface.specs.Surface.{nextSurface, noCubic, alongT}
 use Rattle.scan.specs.declared.walker.Strides.{Strides}
 use Rattle.scan.specs.declared.walker.Walker.{Walker}
 use Rattle.scan.specs.Walker.{axisOf, strideOf, gridStrides, placeOf, walkers, OnGrid}
@@ -29,6 +30,7 @@ use Rattle.scan.proofs.Axes.{offset-small}
 use Rattle.scan.proofs.Samples.{Walk, At, along, row-moves, at-next, at-steps, gridStride, grid-stride-is, grid-stride-small}
 use Rattle.scan.proofs.Samples.{row-on-grid, row-places}
 use Rattle.patch.specs.declared.Patch.{Patch}
+use Rattle.patch.specs.declared.rows.Line.{Line}
 use Rattle.patch.specs.declared.rows.Lines.{Lines}
 use Rattle.patch.specs.Patch.{patchOf}
 use Rattle.patch.specs.Machine.{InLimits, columnAlong, doubledAlong, cubicAlong, surfaceAlong, startLines, lineOf}
@@ -54,10 +56,14 @@ row-on l x-axis = refl
 row-on l y-axis = refl
 row-on l z-axis = refl
 
--- What the lines hold at row j: the walk stands at its first sample, and the surface is that of the row.
+-- The first differences along t that a line holds, as a surface.
+abbrev steps-of : Line → Surface
+steps-of l = record { value = l .d1; d1 = l .d2; d2 = l .d3; d3 = noCubic }
+
+-- What the lines hold at row j: the walk stands at its first sample, and the first differences along t are the row's.
 pub record OnRow (p : Patch) (h : Strides) (j : ℕ) (l : Lines) : Type 0 where
   pub walk : At (patchOf p) h first-of (λ a. doubledAlong p (offset a) 0) j (along-u l)
-  pub surface : (a : Axis) → lineOf l a .surface ≡ surfaceAlong p (offset a) j
+  pub steps : (a : Axis) → steps-of (lineOf l a) ≡ alongT (surfaceAlong p (offset a) j)
 
 module _ (p : Patch) (h : Strides) where
   -- Row 0 on each axis.
@@ -65,7 +71,9 @@ module _ (p : Patch) (h : Strides) where
       lineOf (startLines p h) a ≡
       record {
         walk = startOf (strideOf h a) (pos (coordinate (p .points) a 0)) (cubicAlong p (offset a) 0 0);
-        surface = surfaceAlong p (offset a) 0;
+        d1 = cubicAlong p (offset a) 1 0;
+        d2 = cubicAlong p (offset a) 2 0;
+        d3 = cubicAlong p (offset a) 3 0;
       }
   unfolding coordinate offset
   start-on x-axis = refl
@@ -74,7 +82,7 @@ module _ (p : Patch) (h : Strides) where
 
   -- The lines start at row 0.
   pub start-on-row : OnRow p h 0 (startLines p h)
-  unfolding cellOf cell walk exact delta
+  unfolding cellOf cell walk exact delta surfaceAlong
   start-on-row = record {
     walk = record {
       on = λ a.
@@ -82,7 +90,7 @@ module _ (p : Patch) (h : Strides) where
           (start-tracks (coordinate (p .points) a 0) (line-follows p a zero-le)
           (corner-value (coordinate (p .points) a) (first (first no-corner))) refl);
     };
-    surface = λ a. ap (λ l. l .surface) (start-on a);
+    steps = λ a. ap steps-of (start-on a);
   }
 
   -- The row starts at its first sample.
@@ -91,19 +99,25 @@ module _ (p : Patch) (h : Strides) where
   unfolding surfaceAlong
   row-starts {j} {l} o = record {
     on = λ a.
-        let s = o .surface a in
+        let s = o .steps a in
         rw (row-on l a)
         (row-tracks (pos (p .m))
         (columnAlong p (offset a) 0) (columnAlong p (offset a) 1) (columnAlong p (offset a) 2) (columnAlong p (offset a) 3)
-        j (rw (along-u-on l a) at (o .walk .on a)) (ap (λ s. s .d1) s) (ap (λ s. s .d2) s) (ap (λ s. s .d3) s));
+        j (rw (along-u-on l a) at (o .walk .on a)) (ap (λ s. s .value) s) (ap (λ s. s .d1) s) (ap (λ s. s .d2) s));
   }
 
--- The next row's surface on each axis.
-next-surface : (N : ℤ) (h : Strides) (l : Lines) (a : Axis) →
-    lineOf (nextLines N h l) a .surface ≡ nextSurface (lineOf l a .surface)
-next-surface N h l x-axis = refl
-next-surface N h l y-axis = refl
-next-surface N h l z-axis = refl
+-- The next row's first differences on each axis.
+next-steps : (N : ℤ) (h : Strides) (l : Lines) (a : Axis) →
+    steps-of (lineOf (nextLines N h l) a) ≡ nextSurface (steps-of (lineOf l a))
+unfolding nextOf
+next-steps N h l x-axis = refl
+next-steps N h l y-axis = refl
+next-steps N h l z-axis = refl
+
+-- Those of a surface's next row are the next of its own.
+next-along : (s : Surface) → nextSurface (alongT s) ≡ alongT (nextSurface s)
+unfolding nextOf
+next-along s = refl
 
 module _ {S : ℕ} (p : Patch) (l : InLimits p) (d : Drawable S (patchOf p)) where
   abbrev N : ℤ
@@ -145,9 +159,11 @@ module _ {S : ℕ} (p : Patch) (l : InLimits p) (d : Drawable S (patchOf p)) whe
     -- There is room for the next row.
     pub next-room : j < p .m → LinesRoom N (gridStrides S) lines
     next-room hj = record {
-      on = λ a. record {
+      on = λ a. let r = surface-room l (offset-small a) {j = j} (omega arith) in record {
         walk = rw (← along-u-on lines a) (at-steps u-walk (omega arith) (o .walk) .on a);
-        surface = rw (o .surface a) (surface-room l (offset-small a) (omega arith));
+        d1 = rw (ap (λ s. s .value) (o .steps a)) (r .d1);
+        d2 = rw (ap (λ s. s .d1) (o .steps a)) (r .d2);
+        d3 = rw (ap (λ s. s .d2) (o .steps a)) (r .d3);
       };
     }
 
@@ -155,8 +171,9 @@ module _ {S : ℕ} (p : Patch) (l : InLimits p) (d : Drawable S (patchOf p)) whe
     pub next-on-row : j < p .m → OnRow p (gridStrides S) (suc j) (nextLines N (gridStrides S) lines)
     next-on-row hj = record {
       walk = at-next u-walk hj (o .walk);
-      surface = λ a.
-          next-surface N (gridStrides S) lines a ∙ ap nextSurface (o .surface a) ∙ surface-next p (offset a) j;
+      steps = λ a.
+          next-steps N (gridStrides S) lines a ∙ ap nextSurface (o .steps a) ∙
+          next-along (surfaceAlong p (offset a) j) ∙ ap alongT (surface-next p (offset a) j);
     }
 
     -- The row's places are bytes of the grid, and those of its samples' cells.

@@ -9,11 +9,11 @@ use Rattle.drawing.specs.Object.{scaleOf}
 use Rattle.cubic.specs.Blend.{column, surface, twice}
 use Rattle.cubic.specs.declared.differences.Cubic.{Cubic}
 use Rattle.cubic.specs.declared.axis.Axis as machine
-use Rattle.cubic.specs.Differences.{along}
+use Rattle.cubic.specs.Differences.{along, nextOf}
 use Rattle.cubic.specs.Axis.{startOf, rowOf, stepOf}
-use Rattle.cubic.specs.Room.{Steps}
+use Rattle.cubic.specs.Room.{Room, Steps}
 use Rattle.surface.specs.declared.Surface.{Surface}
-use Rattle.surface.specs.Surface.{nextSurface, alongT, alongU, someLong, SurfaceRoom}
+use Rattle.surface.specs.Surface.{alongT, alongU, someLong}
 use Rattle.scan.specs.Column.{Below64}
 use Rattle.scan.specs.declared.walker.Strides.{Strides}
 use Rattle.scan.specs.declared.walker.Walker.{Walker}
@@ -69,7 +69,9 @@ longAlong p a =
 abbrev pub startLine : Patch → (a : ℕ) (stride : ℤ) → Line
 startLine p a stride = record {
   walk = startOf stride (pos (getD (p .points) a 0)) (cubicAlong p a 0 0);
-  surface = surfaceAlong p a 0;
+  d1 = cubicAlong p a 1 0;
+  d2 = cubicAlong p a 2 0;
+  d3 = cubicAlong p a 3 0;
 }
 
 abbrev pub startLines : Patch → Strides → Lines
@@ -78,7 +80,9 @@ startLines p h = record { x = startLine p 0 (h .x); y = startLine p 1 (h .y); z 
 -- There is room for the next row on one axis, and on three.
 pub record LineRoom (scale stride : ℤ) (l : Line) : Type 0 where
   pub walk : Steps scale stride (l .walk)
-  pub surface : SurfaceRoom (l .surface)
+  pub d1 : Room (l .d1)
+  pub d2 : Room (l .d2)
+  pub d3 : Room (l .d3)
 
 abbrev pub lineOf : Lines → Axis → Line
 lineOf l x-axis = l .x
@@ -90,7 +94,12 @@ pub record LinesRoom (scale : ℤ) (h : Strides) (l : Lines) : Type 0 where
 
 -- The next row on one axis, and on three.
 abbrev pub nextLine : (scale stride : ℤ) → Line → Line
-nextLine scale stride l = record { walk = stepOf scale stride (l .walk); surface = nextSurface (l .surface) }
+nextLine scale stride l = record {
+  walk = stepOf scale stride (l .walk);
+  d1 = nextOf (l .d1);
+  d2 = nextOf (l .d2);
+  d3 = nextOf (l .d3);
+}
 
 abbrev pub nextLines : (scale : ℤ) (h : Strides) → Lines → Lines
 nextLines scale h l = record {
@@ -99,10 +108,9 @@ nextLines scale h l = record {
   z = nextLine scale (h .z) (l .z);
 }
 
--- The row's first sample on one axis, and on three: the walk's cell and remainder, and the surface's differences along
--- t.
+-- The row's first sample on one axis, and on three: the walk's cell and remainder, and the differences along t.
 abbrev pub rowLine : Line → machine.Axis
-rowLine l = rowOf (l .walk) (l .surface .d1) (l .surface .d2) (l .surface .d3)
+rowLine l = rowOf (l .walk) (l .d1) (l .d2) (l .d3)
 
 abbrev pub rowWalker : Lines → Walker
 rowWalker l = record { x = rowLine (l .x); y = rowLine (l .y); z = rowLine (l .z) }

@@ -12,14 +12,17 @@ ghost use Rattle.patch.specs.Machine.{LineRoom, LinesRoom, nextLine, nex
 use crate::Patch;
 use crate::start::start_surface;
 use cubic::axis::Axis;
+use cubic::differences::Cubic;
 use scan::walker::Strides;
 use scan::walker::Walker;
-use surface::Surface;
 
-// One axis: the walk along u through t = 0, whose remainder is carried into each row, beside the surface at that row.
+// One axis: the walk along u through t = 0, whose remainder is carried into each row, beside cubics along u of the
+// differences along t.
 pub(crate) struct Line {
     pub walk: Axis,
-    pub surface: Surface,
+    pub d1: Cubic,
+    pub d2: Cubic,
+    pub d3: Cubic,
 }
 
 // Three axes.
@@ -39,9 +42,14 @@ fn start_line(patch: Patch, a: usize, stride: i64) -> Line
     let p = patch.points;
     let s = start_surface(patch, a);
     let value = s.value;
+    let d1 = s.d1;
+    let d2 = s.d2;
+    let d3 = s.d3;
     Line {
         walk: Axis::start(stride, scan::number::coordinate(p[a]), value),
-        surface: s,
+        d1,
+        d2,
+        d3,
     }
 }
 
@@ -64,10 +72,9 @@ impl Line {
         ensures { λ r. ⌜ r ≡ rowLine self ⌝ }
     {
         let walk = self.walk;
-        let s = self.surface;
-        let b = s.d1;
-        let c = s.d2;
-        let d = s.d3;
+        let b = self.d1;
+        let c = self.d2;
+        let d = self.d3;
         walk.row(b, c, d)
     }
 
@@ -77,11 +84,15 @@ impl Line {
         ensures { λ r. ⌜ r ≡ nextLine scale stride self ⌝ }
     {
         let walk = self.walk;
-        let s = self.surface;
+        let b = self.d1;
+        let c = self.d2;
+        let d = self.d3;
         let next = walk.step(scale, stride);
         Line {
             walk: next,
-            surface: s.next(),
+            d1: b.next(),
+            d2: c.next(),
+            d3: d.next(),
         }
     }
 }

@@ -13,9 +13,9 @@ use Rattle.patch.proofs.rows.start_line.Tie as tie
 
 -- The coordinate, as it is read back.
 point : (c : tie.After-coordinate) →
-    let s = c .before .before .before .before in read (c .coordinate .result) ≡ pos (getD (s .args .patch .points) (s .args .a) 0)
+    let s = c .before .before .before .before .before .before .before in read (c .coordinate .result) ≡ pos (getD (s .args .patch .points) (s .args .a) 0)
 point c =
-    let s = c .before .before .before .before in
+    let s = c .before .before .before .before .before .before .before in
     answer-read (c .coordinate .ensures) (omega (arith, s .pre .0 .coordinates (s .args .a) (rw (s .pre .0 .forty-eight) (omega arith))))
 
 start-surface-requires : tie.Need-start-surface-requires
@@ -29,7 +29,7 @@ coordinate-requires c κs = search needs
 
 start-requires : tie.Need-start-requires
 start-requires c κs =
-    let s = c .before .before .before .before in
+    let s = c .before .before .before .before .before .before .before in
     rw (stride-read (s .pre .1 .1), point c)
     (record {
       stride = s .pre .1 .1;
@@ -40,8 +40,8 @@ start-requires c κs =
 returns : tie.Need-returns
 unfolding surfaceAlong
 returns c =
-    let s = c .before .before .before .before .before in
-    let e = c .before .before .before .start-surface .ensures in
+    let s = c .before .before .before .before .before .before .before .before in
+    let e = c .before .before .before .before .before .before .start-surface .ensures in
     rw (rw (stride-read (s .pre .1 .1), point (c .before), e) at (c .start .ensures), e)
 
 pub start-line-spec : {M : Type 1} → statement M
