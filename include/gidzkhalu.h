@@ -122,12 +122,12 @@ int64_t gidzkhalu_draw_curve(uint32_t side, const uint8_t *points, size_t points
 
 /* Whether a patch can be drawn. Answer: 0.
    Refusals: 51, 11, 13, 14, 15.
-   Stack: 856 bytes. Instructions: 3380655. Environment: any. */
+   Stack: 856 bytes. Instructions: 3379131. Environment: any. */
 int64_t gidzkhalu_check_patch(uint32_t side, const uint8_t *points, size_t points_len, uint32_t n, uint32_t m);
 
 /* Writes the mark in the cell of each sample. Answer: (n + 1) (m + 1).
    Refusals: 51, 11, 21, 12, 13, 14, 15.
-   Stack: 1688 bytes. Instructions: 5513241. Environment: any. */
+   Stack: 1688 bytes. Instructions: 5511717. Environment: any. */
 int64_t gidzkhalu_draw_patch(uint32_t side, const uint8_t *points, size_t points_len, uint32_t n, uint32_t m,
                              uint8_t mark, uint8_t *grid, size_t grid_len);
 
@@ -185,7 +185,7 @@ int64_t gidzkhalu_totals(uint32_t side, const uint8_t *cube, size_t cube_len, ui
 /* Writes the line of a refused sheet from the front of the text and leaves the rest: REFUSED, number and line in 5
    columns each, a line feed. Answer: 18.
    Refusals: 54 (number or line is above 99999), 22 (the text is shorter than 18 bytes).
-   Stack: 8 bytes. Instructions: 122. Environment: any. */
+   Stack: 8 bytes. Instructions: 119. Environment: any. */
 int64_t gidzkhalu_refusal_line(uint32_t number, uint32_t line, uint8_t *text, size_t text_len);
 
 #ifdef __cplusplus
