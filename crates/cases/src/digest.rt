@@ -1,4 +1,7 @@
 // What bytes hold as a whole, taken part by part.
+ghost use mathlib.Core.Path.{_≡_};
+ghost use Prim.Native.Nat.{_%_};
+ghost use Rattle.cases.specs.Bytes.{begunBy, reduced, withBytes};
 use crate::bytes::wide;
 
 // How many bytes are not 0, and the remainders, by two primes, of the number whose digits of base 256 are a leading
@@ -11,7 +14,9 @@ pub struct Digest {
 }
 
 // The digest of no bytes after a leading number.
-pub fn begun(lead: u64) -> Digest {
+pub fn begun(lead: u64) -> Digest
+    ensures { λ r. ⌜ r ≡ begunBy lead ⌝ }
+{
     Digest {
         marked: 0,
         first: lead % 99999989,
@@ -20,7 +25,9 @@ pub fn begun(lead: u64) -> Digest {
 }
 
 // The digest of more bytes after those before.
-pub fn extended(before: Digest, bytes: &[u8]) -> Digest {
+pub fn extended(before: Digest, bytes: &[u8]) -> Digest
+    ensures { λ r. ⌜ r ≡ withBytes (reduced before) (now (bytes .entry)) ⌝ }
+{
     let mut marked = before.marked % 100000000;
     let mut first = before.first % 99999989;
     let mut second = before.second % 99999959;
@@ -42,6 +49,8 @@ pub fn extended(before: Digest, bytes: &[u8]) -> Digest {
 }
 
 // The last eight decimal digits of a number.
-pub fn eight(n: u64) -> u32 {
+pub fn eight(n: u64) -> u32
+    ensures { λ r. ⌜ r ≡ n % 100000000 ⌝ }
+{
     (n % 100000000) as u32
 }

@@ -13,7 +13,9 @@ pub struct Turns {
 }
 
 impl Turns {
-    pub fn all() -> Turns {
+    pub fn all() -> Turns
+        ensures { λ r. ⌜ r .left ≡ 18446744073709551615 ⌝ }
+    {
         Turns { left: u64::MAX }
     }
 

@@ -36,8 +36,8 @@ surface m f0 f1 f2 f3 i j = samples m (f0 i) (f1 i) (f2 i) (f3 i) j
 abbrev pub patch : (n m : ℕ) (g : ℕ → ℤ) (i j : ℕ) → ℤ
 patch n m g = surface (pos m) (column (pos n) g 4 0) (column (pos n) g 4 1) (column (pos n) g 4 2) (column (pos n) g 4 3)
 
--- For document 02's A.13: the face of a volume through the edges number p, p + 4, p + 8 and p + 12, with g(i, j, k) at point number 16i + 4j
--- + k.
+-- For document 02's A.13: the face of a volume through the edges number p, p + 4, p + 8 and p + 12, with g(i, j, k) at
+-- point number 16i + 4j + k.
 abbrev pub face : (n m : ℕ) (g : ℕ → ℤ) (p i j : ℕ) → ℤ
 face n m g p =
     surface (pos m)
