@@ -18,15 +18,18 @@ use lib.Dec.{T, lit<}
 use lib.Pow.{pow-add, pow-pos}
 use lib.Ieee.{Float, binary32, toBits}
 use lib.Ieee.Positive.{num, den, den-pos}
+use Rattle.rounding.specs.Nearest.{Owns}
+use Rattle.rounding.proofs.Half.{within-half-below}
+use Rattle.rounding.proofs.Owns.{owns-equal}
+use Rattle.rounding.proofs.Nearest.{nearest-only, nearest-within-half}
 use Rattle.channel.specs.Channel.{inRange}
-use Rattle.channel.specs.Coordinate.{Owns, IsCoordinate}
+use Rattle.channel.specs.Coordinate.{coordinateOf}
 use Rattle.channel.proofs.Order.{range-nonneg, range-le-one}
 use Rattle.channel.proofs.Bits.{exponentField, fractionField, significand, exponent, significand-lt, bits-value}
-use Rattle.channel.proofs.Owns.{owns-equal, owns-within}
 use Rattle.channel.proofs.Raised.{factor-le, Raised, field-ge, field-le, field-is}
 
 -- The cell of w / 2H is half of w / H rounded up, for a w above 0.
-owns-halved : (w H : ℕ) → 0 < w → 0 < H → Owns (((w - 1) / H + 1) / 2) w (2 * H)
+owns-halved : (w H : ℕ) → 0 < w → 0 < H → Owns (2 * H) (((w - 1) / H + 1) / 2) w
 owns-halved w H W P =
     let t = (w - 1) / H in
     let c = (t + 1) / 2 in
@@ -37,7 +40,7 @@ owns-halved w H W P =
     go t c l u a b
   where
     go : (t c : ℕ) → t * H ≤ w - 1 → w - 1 < t * H + H → 2 * c * H ≤ (t + 1) * H → (t + 1) * H ≤ (2 * c + 1) * H
-        → Owns c w (2 * H)
+        → Owns (2 * H) c w
     go t c l u a b = record { above = omega arith; upTo = omega arith }
 
 -- The same value times the factor, as two fractions.
@@ -65,7 +68,7 @@ cellOf S x t = (((8388608 + t) * (S - 1) - 1) / 2 ^ (149 - x) + 1) / 2
 
 -- It owns the value of a significand and an exponent from 120 to 127.
 field-owns : (n e S x t : ℕ) → 0 < e → 2 ≤ S → 120 ≤ x → x ≤ 127 → n * 2 ^ 149 ≡ significand x t * 2 ^ exponent x * e
-    → Owns (cellOf S x t) (n * (S - 1)) e
+    → Owns e (cellOf S x t) (n * (S - 1))
 field-owns n e S zero t E l g h r = absurd (not-le-of-lt (lit< tt) g)
 field-owns n e S (suc x) t E l g h r =
     let q = 8388608 + t in
@@ -73,29 +76,29 @@ field-owns n e S (suc x) t E l g h r =
     let k : 148 - x ≡ 149 - suc x = omega arith in
     let d : 2 * H * 2 ^ x ≡ 2 ^ 149 = ap (λ (y : ℕ). 2 * 2 ^ y * 2 ^ x) (sym k) ∙ parts x (omega arith) in
     let w : 0 < q * (S - 1) = mul-pos (omega arith) (omega arith) in
-    owns-equal (cellOf S (suc x) t) (q * (S - 1)) (2 * H) (n * (S - 1)) e
-    (mul-pos (lit< tt) (pow-pos (149 - suc x))) E
+    owns-equal (mul-pos (lit< tt) (pow-pos (149 - suc x))) E
     (times-factor n (2 * H) q e (S - 1) (reduce n e q (2 ^ x) (2 * H) (2 ^ 149) (pow-pos x) d r))
     (owns-halved (q * (S - 1)) H w (pow-pos (149 - suc x)))
 
--- A cell that owns v × (S-1) is below the side.
-is-coordinate : (S : ℕ) (v : Float) (c : ℕ) → 2 ≤ S → T (inRange v) → Owns c (num v * (S - 1)) (den v)
-    → IsCoordinate S v c
-is-coordinate S v c l u h =
+-- The coordinate of a channel is below the side.
+pub coordinate-below : (S : ℕ) (v : Float) → 2 ≤ S → T (inRange v) → coordinateOf S v < S
+unfolding coordinateOf
+coordinate-below S v l u =
     let p : num v * (S - 1) ≤ den v * (S - 1) = mul-le-mul-right (S - 1) (range-le-one v u) in
-    let k : c ≤ S - 1 = owns-within c (S - 1) (num v * (S - 1)) (den v) (omega arith) h in
-    record { owns = h; inside = omega arith }
+    let near = nearest-within-half (den-pos v) (num v * (S - 1)) in
+    let k = within-half-below (den v) (coordinateOf S v) (num v * (S - 1)) (S - 1) (den-pos v) near p in
+    omega arith
 
 -- The coordinate of a channel v that is raised to u.
-pub raised-coordinate : (S : ℕ) (v u : Float) → 2 ≤ S → S ≤ 64 → T (inRange v) → Raised v u
-    → IsCoordinate S v (cellOf S (toBits binary32 u / 8388608) (fractionField (toBits binary32 u)))
-raised-coordinate S v u l g h r =
+pub raised-coordinate : (S : ℕ) (v u : Float) → 2 ≤ S → S ≤ 64 → Raised v u
+    → cellOf S (toBits binary32 u / 8388608) (fractionField (toBits binary32 u)) ≡ coordinateOf S v
+unfolding coordinateOf
+raised-coordinate S v u l g r =
     let b = toBits binary32 u in
     let F = r .held in
     let k = r .range in
     let m = r .large in
-    let c = cellOf S (b / 8388608) (fractionField b) in
     let o =
     field-owns (num u) (den u) S (exponentField b) (fractionField b) (den-pos u) l
     (field-ge u F k m) (field-le u F k m) (bits-value u F (range-nonneg u k)) in
-    is-coordinate S v c l h (r .cell c S g (rw (field-is u F k m) at o))
+    sym (nearest-only (den-pos u) (rw (field-is u F k m) at o)) ∙ r .cell S g

@@ -1,6 +1,6 @@
 -- A dark channel is raised to 1/128: both are in cell 0. The raised channel has no minus, and its exponent's field is 120
 -- to 127.
-use mathlib.Core.Path.{_≡_, sym, ap, subst}
+use mathlib.Core.Path.{_≡_, refl, sym, ap, _∙_, subst}
 use Prim.Native.Nat.{ℕ, zero, suc, _-_, _*_, _/_, _^_, _≤_, _<_}
 use native.Mathlib.Nat.{
   le-trans,
@@ -23,8 +23,10 @@ use lib.Dec.{T, lit≤, lit<}
 use lib.Pow.{pow-pos, pow-mono}
 use lib.Ieee.{Float, binary32, le, toBits, fits}
 use lib.Ieee.Positive.{num, den, den-pos}
+use Rattle.rounding.specs.Nearest.{Owns}
+use Rattle.rounding.proofs.Nearest.{nearest-only}
 use Rattle.channel.specs.Channel.{inRange}
-use Rattle.channel.specs.Coordinate.{Owns}
+use Rattle.channel.specs.Coordinate.{coordinateOf}
 use Rattle.channel.proofs.Order.{
   le-fractions,
   le-or-ge,
@@ -41,14 +43,13 @@ use Rattle.channel.proofs.Bits.{
   bits-value,
   bits-plus,
 }
-use Rattle.channel.proofs.Owns.{owns-unique}
 
 -- A side up to 64 is a factor of at most 63.
 pub factor-le : (S : ℕ) → S ≤ 64 → S - 1 ≤ 63
 factor-le S h = omega arith
 
 -- A value n / d of which 63 times is at most a half is in cell 0 at every side.
-dark-owns : (n d S : ℕ) → 0 < d → n * 126 ≤ d → S ≤ 64 → Owns 0 (n * (S - 1)) d
+dark-owns : (n d S : ℕ) → 0 < d → n * 126 ≤ d → S ≤ 64 → Owns d 0 (n * (S - 1))
 dark-owns n d S D h g =
     let q : n * (S - 1) ≤ n * 63 = mul-le-mul-left n (factor-le S g) in
     record { above = omega arith; upTo = omega arith }
@@ -70,7 +71,12 @@ pub record Raised (v u : Float) : Type 0 where
   pub large : den u ≤ num u * 128
   pub held : T (fits binary32 u)
   pub range : T (inRange u)
-  pub cell : (c S : ℕ) → S ≤ 64 → Owns c (num u * (S - 1)) (den u) → Owns c (num v * (S - 1)) (den v)
+  pub cell : (S : ℕ) → S ≤ 64 → coordinateOf S u ≡ coordinateOf S v
+
+-- A dark channel is in cell 0.
+dark : (v : Float) (S : ℕ) → num v * 126 ≤ den v → S ≤ 64 → coordinateOf S v ≡ 0
+unfolding coordinateOf
+dark v S h g = nearest-only (den-pos v) (dark-owns (num v) (den v) S (den-pos v) h g)
 
 -- A channel up to k is raised to k, if k is from 1/128 and 63 × k at most a half.
 pub raised-small : {u k : Float} (v : Float) → u ≡ k → den k ≤ num k * 128 → T (fits binary32 k) → T (inRange k)
@@ -78,17 +84,7 @@ pub raised-small : {u k : Float} (v : Float) → u ≡ k → den k ≤ num k * 1
 raised-small {k} v w l F r b h e =
     let p = le-fractions v k (range-nonneg v h) (range-nonneg k r) .0 (subst T (sym e) tt) in
     let a = dark-below (num v) (den v) (num k) (den k) (den-pos k) p b in
-    rw w
-    (record {
-      large = l;
-      held = F;
-      range = r;
-      cell =
-          λ c S g o.
-          subst (λ (z : ℕ). Owns z (num v * (S - 1)) (den v))
-          (owns-unique 0 c (num k * (S - 1)) (den k) (dark-owns (num k) (den k) S (den-pos k) b g) o)
-          (dark-owns (num v) (den v) S (den-pos v) a g);
-    })
+    rw w (record { large = l; held = F; range = r; cell = λ S g. dark k S b g ∙ sym (dark v S a g) })
 
 -- A channel above k stays, if k is from 1/128.
 pub raised-large : (v k : Float) → le v k ≡ false → den k ≤ num k * 128 → T (inRange k) → T (fits binary32 v) → T (inRange v)
@@ -99,7 +95,7 @@ raised-large v k e l r F h =
       large = from-above (num v) (den v) (num k) (den k) (den-pos k) l a;
       held = F;
       range = h;
-      cell = λ c S g o. o;
+      cell = λ S g. refl;
     }
 
 -- An exponent's field below 120 is an exponent of at most 118.

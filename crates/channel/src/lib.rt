@@ -6,7 +6,7 @@ ghost use Prim.Native.Nat.{_≤_};
 ghost use lib.Dec.{T};
 ghost use Rattle.decide.specs.Refusal.{firstThat, refused};
 ghost use Rattle.channel.specs.Channel.{inRange, infiniteOrNan, channelRefusals};
-ghost use Rattle.channel.specs.Coordinate.{IsCoordinate};
+ghost use Rattle.channel.specs.Coordinate.{coordinateOf};
 ghost use Rattle.channel.specs.HalfWay.{IsHalfWayChannel};
 
 // Three f32 channels.
@@ -46,7 +46,7 @@ pub fn is_infinite_or_nan(v: f32) -> bool
 pub fn coordinate(side: u32, v: f32) -> u8
     requires { ⌜ (2 ≤ side) × (side ≤ 64) ⌝ }
     requires { ⌜ T (inRange v) ⌝ }
-    ensures { λ r. ⌜ IsCoordinate side v r ⌝ }
+    ensures { λ r. ⌜ r ≡ coordinateOf side v ⌝ }
 {
     let raised = if v <= 0.0078125 { 0.0078125 } else { v };
     let b = f32::to_bits(raised);

@@ -6,7 +6,7 @@ use mathlib.Core.List.{List, [], _∷_, _++_}
 use Prim.Native.Nat.{ℕ}
 use lib.Dec.{T}
 use lib.ListN.{length, getD}
-use Rattle.walk.specs.Walk.{withinHalf}
+use Rattle.rounding.specs.Nearest.{withinHalf}
 use Rattle.cube.specs.Cube.{Cell, Inside, place, volume}
 use Rattle.drawing.specs.Object.{Object, scaleOf, exact, cellOf}
 use Rattle.drawing.specs.Refusals.{Drawable}
@@ -72,7 +72,7 @@ module _ (S : ℕ) (start : List ℕ) (cube : length start ≡ volume S) where
             sample = p .sample;
             is-sample = p .is-sample;
             is-near = λ a. subst (λ k. T (withinHalf (scaleOf o) k (exact o a (p .sample)))) (sym (same a))
-                (cell-within d (p .is-sample) a);
+                (cell-within d (p .sample) a);
           }
 
   each-object : (before : List Call) (call : Call) → Accepted (length start) call →
@@ -86,12 +86,12 @@ module _ (S : ℕ) (start : List ℕ) (cube : length start ≡ volume S) where
       subst (λ len. Accepted len call) (sym (turns-length calls-supply before start)) e in
       record {
         in-the-cube = λ b. cell-inside d b;
-        within-half-a-cell = λ b. cell-within d b;
+        within-half-a-cell = λ {sample = is} b. cell-within d is;
         holding-its-mark = λ {sample = is} b.
             ap (λ grid. getD grid (place S (cellOf o is)) 0) last ∙
             subst (λ side. getD (drawn (sideOf call) o (run before start)) (place side (cellOf o is)) 0 ≡ o .mark)
             (side-same call e) (drawn-there (sideOf call) o (run before start) then b);
-        by-at-most-one = λ f a. cells-next-to o f a;
+        by-at-most-one = λ f. cells-next-to d f;
       }
 
 -- Demand 3.

@@ -7,8 +7,8 @@ use lib.ListN.{length}
 use Rattle.bezier.specs.Exact.{blend, scale, points, value}
 use Rattle.decide.specs.Some.{someBelow, someOf}
 use Rattle.decide.specs.Refusal.{firstThat}
-use Rattle.walk.specs.Walk.{withinHalf, towards, move, walk, cell}
-use Rattle.walk.specs.Steps.{farApart, someSample, tooLong}
+use Rattle.rounding.specs.Nearest.{nearest}
+use Rattle.neighbours.specs.Steps.{farApart, someSample, tooLong}
 use Rattle.cube.specs.Cube.{someAxis, sideOut, place}
 use Rattle.drawing.specs.Object.{offset, coordinate, exact, cellOf}
 use Rattle.drawing.specs.Refusals.{countOut, coordinateOut, stepsTooLong, order, drawVerdict}
@@ -40,7 +40,7 @@ refused-leaves = refl
 
 -- The second stroke takes the cell that both pass; the first keeps its other cell, and every other cell keeps its byte.
 pub later-over-earlier : run (along-x 100 ∷ along-y 200 ∷ []) held ≡ 200 ∷ 100 ∷ 200 ∷ 4 ∷ 5 ∷ 6 ∷ 7 ∷ 8 ∷ []
-unfolding blend scale points value someBelow someOf firstThat withinHalf towards move walk cell farApart someSample tooLong
+unfolding blend scale points value someBelow someOf firstThat nearest farApart someSample tooLong
     someAxis sideOut place offset coordinate exact cellOf countOut coordinateOut stepsTooLong order drawVerdict row rows samples
     marked cells drawn inTurn run
 later-over-earlier = refl

@@ -7,8 +7,8 @@ use lib.Dec.{T}
 use lib.ListN.{length, getD}
 use Rattle.bezier.specs.Exact.{Sample}
 use Rattle.decide.specs.Refusal.{accepted}
-use Rattle.walk.specs.Walk.{withinHalf, NextTo}
-use Rattle.walk.specs.Steps.{Follows}
+use Rattle.rounding.specs.Nearest.{withinHalf, NextTo}
+use Rattle.neighbours.specs.Steps.{Follows}
 use Rattle.cube.specs.Cube.{Axis, Cell, Inside, place, volume}
 use Rattle.drawing.specs.Object.{Object, curve, patch, scaleOf, exact, cellOf}
 use Rattle.drawing.specs.Refusals.{drawVerdict}

@@ -71,7 +71,7 @@ module _ (n m : ℕ) (g : ℕ → ℕ) where
     agrees = λ i hi. patch-value n m (twice g) i j ∙ value-doubled g (index hi (index hj no-index));
   }
 
-  -- A patch along u, through t = i: where i is 0, the walk that gives each row's first cell.
+  -- A patch along u, through t = i: where i is 0, the walk through each row's first sample.
   pub line-doubles : {i : ℕ} → i ≤ n →
       Doubles m (λ j. value (n ∷ m ∷ []) g (i ∷ j ∷ [])) (λ j. patch n m (twice g) i j)
   line-doubles {i} hi =

@@ -12,7 +12,8 @@ use Rattle.cubic.specs.declared.axis.Axis.{Axis}
 use Rattle.cubic.specs.Blend.{samples, column, patch, face, volume, twice}
 use Rattle.cubic.specs.Differences.{delta, differencesAt, along}
 use Rattle.cubic.specs.Room.{Each, Level, Startable, Fields, Room, Steps}
-use Rattle.cubic.specs.Tracks.{Tracks}
+use Rattle.cubic.specs.Tracks.{Tracks, Remainder}
+use Rattle.cubic.proofs.Tracks.{remainder-within}
 use Rattle.cubic.proofs.Bounds.{level-start, level-fields, field-within, along-fields, row-fields}
 
 -- A level by computation.
@@ -49,17 +50,17 @@ fields-room l b = record {
   d3 = within-weaken (b .d3) (l .room);
 }
 
--- An axis has room for a step where the differences of its sequence have, the remainder is from -N to N, and the
+-- An axis has room for a step where the differences of its sequence have, the remainder is above -N and up to N, and the
 -- coordinate is below 64.
 pub tracks-steps : {s h c : ℕ} {a : Axis} (P : ℕ → ℤ) (i : ℕ) → Tracks s (pos h) P i c a →
-    Room (differencesAt P i) → Within s (a .cubic .value) → s ≤ 2 ^ 60 → h ≤ 4096 → c ≤ 63 → Steps (pos s) (pos h) a
+    Room (differencesAt P i) → Remainder s (a .cubic .value) → s ≤ 2 ^ 60 → h ≤ 4096 → c ≤ 63 → Steps (pos s) (pos h) a
 unfolding differencesAt
 tracks-steps P i t r b hs hh hc = record {
   scale = within-pos hs;
   stride = within-pos (le-trans hh (lit≤ tt));
   at = rw (t .place) (within-weaken (within-mul (within-pos hh) (within-pos hc)) (lit≤ tt));
   cubic = record {
-    value = within-weaken b (le-trans hs (lit≤ tt));
+    value = within-weaken (remainder-within b) (le-trans hs (lit≤ tt));
     d1 = rw (t .first) (r .d1);
     d2 = rw (t .second) (r .d2);
     d3 = rw (t .third) (r .d3);

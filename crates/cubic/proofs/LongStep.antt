@@ -6,7 +6,7 @@ use native.Mathlib.Omega.{arith}
 use lib.IntN.{ℤ, pos, _-ℤ_}
 use Rattle.decide.proofs.Truth.{at-most-agrees}
 use Rattle.integers.proofs.Difference.{zval}
-use Rattle.walk.specs.Steps.{farApart}
+use Rattle.neighbours.specs.Steps.{farApart}
 use Rattle.cubic.specs.Differences.{delta}
 use Rattle.cubic.specs.Tracks.{Doubles}
 use Rattle.cubic.specs.Axis.{longOf}

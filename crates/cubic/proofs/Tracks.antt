@@ -1,28 +1,23 @@
--- The machine follows the walk: what an axis tracks it still tracks after equation 8 and after the decision, so after a
--- step, and the coordinate is then the one that the walk moves to.
+-- The machine follows the values: what an axis tracks it still tracks after equation 8 and after the decision, so after a
+-- step. From the cell that owns a value, the decision ends in the cell that owns the next, at most one cell from it.
 use mathlib.Core.Path.{_≡_, refl, sym, _∙_, ap, ap₂}
 use mathlib.Core.Logic.{_↔_}
 use mathlib.Core.Bool.{Bool, true, false, cond}
-use Prim.Native.Nat.{ℕ, zero, suc, pred, _+_, _*_, _≤_, _<_, zero-le}
+use Prim.Native.Nat.{ℕ, zero, suc, _+_, _*_, _≤_, _<_, zero-le}
 use native.Mathlib.Omega.{arith}
-use lib.Dec.{T}
 use lib.IntN.{ℤ, pos, _+ℤ_, _-ℤ_, _*ℤ_, +ℤ-idl}
-use lib.Signed.{ltZ, _<ℤ_, _≤ℤ_}
+use lib.Signed.{ltZ, leZ, _<ℤ_, _≤ℤ_}
 use Rattle.integers.specs.Magnitude.{Within}
 use Rattle.integers.proofs.Difference.{val-of, zval}
-use Rattle.integers.proofs.Magnitude.{within-upper, within-lower}
-use Rattle.integers.proofs.Test.{ltZ-true, ltZ-false, le-ltZ}
-use Rattle.walk.specs.Walk.{withinHalf, move}
-use Rattle.walk.specs.Steps.{farApart}
-use Rattle.walk.proofs.Half.{within-half}
-use Rattle.walk.proofs.Move.{move-stays, move-up, move-down}
-use Rattle.walk.proofs.Accuracy.{move-within-half}
+use Rattle.integers.proofs.Test.{ltZ-true, ltZ-false, leZ-true, leZ-false}
+use Rattle.rounding.specs.Nearest.{Owns, AtMostOneApart}
+use Rattle.rounding.proofs.Owns.{owns-unique, move-up, move-down}
 use Rattle.cubic.specs.declared.differences.Cubic.{Cubic}
 use Rattle.cubic.specs.declared.axis.Axis.{Axis}
 use Rattle.cubic.specs.Blend.{surface}
 use Rattle.cubic.specs.Differences.{delta, differencesAt, nextOf, along, IsCubic}
 use Rattle.cubic.specs.Axis.{withValue, startOf, rowOf, settleOf, stepOf}
-use Rattle.cubic.specs.Tracks.{Doubles, Tracks}
+use Rattle.cubic.specs.Tracks.{Doubles, Tracks, Remainder}
 use Rattle.cubic.proofs.Rows.{row-delta}
 use Rattle.cubic.proofs.Next.{delta-next, third-same}
 
@@ -31,14 +26,11 @@ module _ (x : ℤ) (s A B : ℕ) where
   above : pos s <ℤ x → x +ℤ pos A ≡ pos B → A + s < B
   above = rw (val-of x) (simp zval (omega arith))
 
-  below : x <ℤ (pos 0 -ℤ pos s) → x +ℤ pos A ≡ pos B → B + s < A
+  below : x ≤ℤ (pos 0 -ℤ pos s) → x +ℤ pos A ≡ pos B → B + s ≤ A
   below = rw (val-of x) (simp zval (omega arith))
 
-  between : x ≤ℤ pos s → (pos 0 -ℤ pos s) ≤ℤ x → x +ℤ pos A ≡ pos B → (B ≤ A + s) × (A ≤ B + s)
+  between : x +ℤ pos A ≡ pos B → (((pos 0 -ℤ pos s) <ℤ x) × (x ≤ℤ pos s)) ↔ ((A < B + s) × (B ≤ A + s))
   between = rw (val-of x) (simp zval (omega arith))
-
-  within : x +ℤ pos A ≡ pos B → Within s x ↔ ((B ≤ A + s) × (A ≤ B + s))
-  within = rw (val-of x) (simp zval (omega arith))
 
 -- One cell up and one cell down.
 module _ (h x : ℤ) (s c : ℕ) where
@@ -98,41 +90,45 @@ module _ {s : ℕ} {h : ℤ} {P : ℕ → ℤ} {i c : ℕ} {a : Axis} (t : Track
     third = t .third ∙ third-same P i q;
   }
 
-  -- The remainder is from -N to N exactly where the value is within half a cell of the coordinate.
-  pub remainder-half : (v : ℕ) → P i ≡ pos (2 * v) → Within s (a .cubic .value) ↔ T (withinHalf s c v)
-  remainder-half v e =
-      let w = within (a .cubic .value) s (2 * (s * c)) (2 * v) (t .remainder ∙ e) in
-      let g = within-half s c v in
-      (λ b. g .1 (w .0 b), λ b. w .1 (g .0 b))
+  -- The remainder lies above -N, up to N, exactly where the coordinate owns the value.
+  pub remainder-owns : (v : ℕ) → P i ≡ pos (2 * v) → Remainder s (a .cubic .value) ↔ Owns s c v
+  remainder-owns v e =
+      let b = between (a .cubic .value) s (2 * (s * c)) (2 * v) (t .remainder ∙ e) in (
+        λ r. let w = b .0 (r .above, r .upTo) in record { above = w .0; upTo = w .1 },
+        λ o. let w = b .1 (o .above, o .upTo) in record { above = w .0; upTo = w .1 },
+      )
 
-  -- The decision moves the coordinate as the walk does.
-  pub settle-tracks : (v : ℕ) → P i ≡ pos (2 * v) → Tracks s h P i (move s c v) (settleOf (pos s) h a)
+  -- From the cell that owns v, the decision on a value w at most one cell from v ends in the cell that owns w.
+  pub settle-tracks : {v w d : ℕ} → Owns s c v → AtMostOneApart s v w → Owns s d w → P i ≡ pos (2 * w) →
+      Tracks s h P i d (settleOf (pos s) h a)
   unfolding settleOf
-  settle-tracks v e = by-tests (ltZ (pos s) x) (ltZ x (pos 0 -ℤ pos s)) refl refl
+  settle-tracks {v} {w} {d} from near to e = by-tests (ltZ (pos s) x) (leZ x (pos 0 -ℤ pos s)) refl refl
     where
       x : ℤ
       x = a .cubic .value
 
-      sum : x +ℤ pos (2 * (s * c)) ≡ pos (2 * v)
+      sum : x +ℤ pos (2 * (s * c)) ≡ pos (2 * w)
       sum = t .remainder ∙ e
 
-      down : (c : ℕ) → Tracks s h P i c a → 2 * v + s < 2 * (s * c) →
-          Tracks s h P i (pred c) (record { at = a .at -ℤ h; cubic = withValue (x +ℤ (pos s +ℤ pos s)) (a .cubic) })
-      down zero u l = absurd (omega arith)
-      down (suc k) u l = record {
-        place = ap (λ z. z -ℤ h) (u .place) ∙ down-place h x s k;
-        remainder = down-remainder h x s k ∙ u .remainder;
-        first = u .first;
-        second = u .second;
-        third = u .third;
-      }
+      down : (c : ℕ) → Tracks s h P i c a → Owns s c v → 2 * w + s ≤ 2 * (s * c) →
+          Tracks s h P i d (record { at = a .at -ℤ h; cubic = withValue (x +ℤ (pos s +ℤ pos s)) (a .cubic) })
+      down zero u o l = let low = o .above in let near-down = near .down in absurd (omega arith)
+      down (suc k) u o l =
+          rw (owns-unique to (move-down o near l))
+          (record {
+            place = ap (λ z. z -ℤ h) (u .place) ∙ down-place h x s k;
+            remainder = down-remainder h x s k ∙ u .remainder;
+            first = u .first;
+            second = u .second;
+            third = u .third;
+          })
 
-      by-tests : (p q : Bool) → ltZ (pos s) x ≡ p → ltZ x (pos 0 -ℤ pos s) ≡ q →
-          Tracks s h P i (move s c v)
+      by-tests : (p q : Bool) → ltZ (pos s) x ≡ p → leZ x (pos 0 -ℤ pos s) ≡ q →
+          Tracks s h P i d
           (cond p (record { at = a .at +ℤ h; cubic = withValue (x -ℤ (pos s +ℤ pos s)) (a .cubic) })
           (cond q (record { at = a .at -ℤ h; cubic = withValue (x +ℤ (pos s +ℤ pos s)) (a .cubic) }) a))
       by-tests true q f g =
-          rw (move-up s c v (above x s (2 * (s * c)) (2 * v) (ltZ-true f) sum))
+          rw (owns-unique to (move-up from near (above x s (2 * (s * c)) (2 * w) (ltZ-true f) sum)))
           (record {
             place = ap (λ z. z +ℤ h) (t .place) ∙ up-place h x s c;
             remainder = up-remainder h x s c ∙ t .remainder;
@@ -140,28 +136,25 @@ module _ {s : ℕ} {h : ℤ} {P : ℕ → ℤ} {i c : ℕ} {a : Axis} (t : Track
             second = t .second;
             third = t .third;
           })
-      by-tests false true f g =
-          let l = below x s (2 * (s * c)) (2 * v) (ltZ-true g) sum in
-          rw (move-down s c v l) (down c t l)
+      by-tests false true f g = down c t from (below x s (2 * (s * c)) (2 * w) (leZ-true g) sum)
       by-tests false false f g =
-          let b = between x s (2 * (s * c)) (2 * v) (ltZ-false f) (ltZ-false g) sum in
-          rw (move-stays s c v (within-half s c v .1 b)) t
+          rw (owns-unique to (remainder-owns w e .0 (record { above = leZ-false g; upTo = ltZ-false f }))) t
 
--- From -N to N, both ends included, nothing moves.
-pub settle-stays : (s : ℕ) (h : ℤ) (a : Axis) → Within s (a .cubic .value) → settleOf (pos s) h a ≡ a
-unfolding settleOf
-settle-stays s h a b = rw (le-ltZ (within-upper b), le-ltZ (within-lower b))
+-- Such a remainder is within N.
+size : (s : ℕ) (x : ℤ) → (pos 0 -ℤ pos s) <ℤ x → x ≤ℤ pos s → Within s x
+size s x = rw (val-of x) (simp zval (omega arith))
 
-module _ {n s : ℕ} {h : ℤ} {f : ℕ → ℕ} {P : ℕ → ℤ} (d : Doubles n f P) {i : ℕ} (l : i < n) where
-  -- A step follows the walk.
-  pub step-tracks : {c : ℕ} {a : Axis} → Tracks s h P i c a →
-      Tracks s h P (suc i) (move s c (f (suc i))) (stepOf (pos s) h a)
+pub remainder-within : {s : ℕ} {x : ℤ} → Remainder s x → Within s x
+remainder-within {s} {x} r = size s x (r .above) (r .upTo)
+
+-- A step to the next value, at most one cell from the last.
+module _ {n s c d : ℕ} {h : ℤ} {f : ℕ → ℕ} {P : ℕ → ℤ} (q : Doubles n f P) {i : ℕ} (l : i < n) {a : Axis}
+    (from : Owns s c (f i)) (near : AtMostOneApart s (f i) (f (suc i))) (to : Owns s d (f (suc i))) (t : Tracks s h P i c a) where
+  -- From the cell that owns the last value it leads to the cell that owns the next.
+  pub step-tracks : Tracks s h P (suc i) d (stepOf (pos s) h a)
   unfolding stepOf
-  step-tracks t = settle-tracks (next-tracks t (d .cubic)) (f (suc i)) (d .agrees (suc i) l)
+  step-tracks = settle-tracks (next-tracks t (q .cubic)) from near to (q .agrees (suc i) l)
 
-  -- From within half a cell, and with no long step, the remainder after the move is from -N to N.
-  pub step-half : {c : ℕ} {a : Axis} → Tracks s h P i c a → T (withinHalf s c (f i)) →
-      ¬ T (farApart s (f i) (f (suc i))) → Within s (stepOf (pos s) h a .cubic .value)
-  step-half {c} t w near =
-      remainder-half (step-tracks t) (f (suc i)) (d .agrees (suc i) l) .1
-      (move-within-half s c (f i) (f (suc i)) w near)
+  -- The remainder is then above -N, up to N: it is never -N.
+  pub step-remainder : Remainder s (stepOf (pos s) h a .cubic .value)
+  step-remainder = remainder-owns step-tracks (f (suc i)) (q .agrees (suc i) l) .1 to

@@ -1,7 +1,7 @@
 -- One axis of a drawing: its start, the decision of figure 2, the step, and the long-step test.
 use mathlib.Core.Bool.{Bool, cond, _||_}
 use lib.IntN.{ℤ, pos, _+ℤ_, _-ℤ_, _*ℤ_}
-use lib.Signed.{ltZ}
+use lib.Signed.{ltZ, leZ}
 use Rattle.cubic.specs.declared.differences.Cubic.{Cubic}
 use Rattle.cubic.specs.declared.axis.Axis.{Axis}
 use Rattle.cubic.specs.Differences.{nextOf, headsOf}
@@ -18,13 +18,13 @@ startOf stride point c = record { at = stride *ℤ point; cubic = withValue (pos
 abbrev pub rowOf : Axis → Cubic → Cubic → Cubic → Axis
 rowOf a b c d = record { at = a .at; cubic = headsOf (a .cubic) b c d }
 
--- Above N the coordinate goes up by one, and below -N down by one, and the remainder makes up for it by 2N.
--- In between, both ends included, nothing moves.
+-- Above N the coordinate goes up by one, at -N or below down by one, and the remainder makes up for it by 2N.
+-- Above -N and up to N nothing moves.
 unfoldable pub settleOf : (scale stride : ℤ) → Axis → Axis
 settleOf scale stride a =
     cond (ltZ scale (a .cubic .value))
     (record { at = a .at +ℤ stride; cubic = withValue (a .cubic .value -ℤ (scale +ℤ scale)) (a .cubic) })
-    (cond (ltZ (a .cubic .value) (pos 0 -ℤ scale))
+    (cond (leZ (a .cubic .value) (pos 0 -ℤ scale))
     (record { at = a .at -ℤ stride; cubic = withValue (a .cubic .value +ℤ (scale +ℤ scale)) (a .cubic) })
     a)
 

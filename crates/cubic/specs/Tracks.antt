@@ -2,7 +2,8 @@
 -- reached.
 use mathlib.Core.Path.{_≡_}
 use Prim.Native.Nat.{ℕ, _*_, _≤_}
-use lib.IntN.{ℤ, pos, _+ℤ_, _*ℤ_}
+use lib.IntN.{ℤ, pos, _+ℤ_, _-ℤ_, _*ℤ_}
+use lib.Signed.{_<ℤ_, _≤ℤ_}
 use Rattle.cubic.specs.declared.axis.Axis.{Axis}
 use Rattle.cubic.specs.Differences.{delta, IsCubic}
 
@@ -19,3 +20,8 @@ pub record Tracks (s : ℕ) (stride : ℤ) (P : ℕ → ℤ) (i c : ℕ) (a : Ax
   pub first : a .cubic .d1 ≡ delta 1 P i
   pub second : a .cubic .d2 ≡ delta 2 P i
   pub third : a .cubic .d3 ≡ delta 3 P i
+
+-- A remainder x lies above -N, up to N.
+pub record Remainder (s : ℕ) (x : ℤ) : Type 0 where
+  pub above : (pos 0 -ℤ pos s) <ℤ x
+  pub upTo : x ≤ℤ pos s

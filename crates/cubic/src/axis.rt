@@ -1,5 +1,5 @@
-// One axis of a drawing: a cubic along a parameter, beside the coordinate that the walk has reached. Everything is scaled
-// by 2N; the cubic's value is the remainder, 2B - 2N × coordinate, from -N to N.
+// One axis of a drawing: a cubic along a parameter, beside the coordinate of the sample's cell. Everything is scaled by
+// 2N; the cubic's value is the remainder, 2B - 2N × coordinate, above -N and up to N.
 ghost use mathlib.Core.Path.{_≡_};
 ghost use Rattle.cubic.specs.Axis.{startOf, rowOf, settleOf, stepOf};
 ghost use Rattle.cubic.specs.Room.{Placed, Settles, Steps};
@@ -30,7 +30,8 @@ impl Axis {
         }
     }
 
-    // The row that starts where the walk along u stands: the same coordinate and remainder, and the differences along t.
+    // The row that starts where the walk along u stands: the same coordinate and remainder, whose sum is the value of the
+    // row's first sample, and the differences along t.
     pub fn row(self, b: Cubic, c: Cubic, d: Cubic) -> Axis
         ensures { λ r. ⌜ r ≡ rowOf self b c d ⌝ }
     {
@@ -42,7 +43,7 @@ impl Axis {
         }
     }
 
-    // Figure 2's decision: the remainder against N and -N moves the coordinate up, down or not at all.
+    // Figure 2's decision, a half going down: the remainder against N and -N moves the coordinate up, down or not at all.
     pub fn settle(self, scale: i64, stride: i64) -> Axis
         requires { ⌜ Settles scale stride self ⌝ }
         ensures { λ r. ⌜ r ≡ settleOf scale stride self ⌝ }
@@ -55,7 +56,7 @@ impl Axis {
         if rem > scale {
             at += stride;
             rem -= two;
-        } else if rem < low {
+        } else if rem <= low {
             at -= stride;
             rem += two;
         }

@@ -9,12 +9,13 @@ use lib.ListN.{length, drop}
 use Rattle.decide.specs.Refusal.{accepted}
 use Rattle.bezier.specs.Exact.{no-index, index, no-corner, first}
 use Rattle.bezier.proofs.Ends.{corner-value}
-use Rattle.walk.specs.Walk.{walk, cell}
+use Rattle.neighbours.specs.Steps.{first as step}
 use Rattle.cube.specs.Cube.{Axis, x-axis, y-axis, z-axis}
-use Rattle.drawing.specs.Object.{offset, coordinate, scaleOf, exact, cellOf}
+use Rattle.drawing.specs.Object.{offset, coordinate, scaleOf, exact}
 use Rattle.drawing.specs.Refusals.{Drawable, drawVerdict, listVerdict, sampleCount}
 use Rattle.drawing.specs.Drawing.{marked, bytes, cells, drawn, listed}
 use Rattle.drawing.proofs.Samples.{one-row}
+use Rattle.drawing.proofs.Cells.{corner-cell}
 use Rattle.drawing.proofs.Listed.{listed-accepted}
 use Rattle.cubic.specs.Differences.{differencesAt}
 use Rattle.cubic.specs.Axis.{startOf}
@@ -22,7 +23,7 @@ use Rattle.cubic.proofs.Tracks.{start-tracks}
 use Rattle.scan.specs.declared.walker.Strides.{Strides}
 use Rattle.scan.specs.Walker.{axisOf, strideOf, gridStrides, listStrides, placeOf, cellOfWalker, walkers}
 use Rattle.scan.proofs.Axes.{offset-small}
-use Rattle.scan.proofs.Samples.{Walk, At, along, row-moves, gridStride, grid-stride-is, grid-stride-small, list-stride-is, row-places, row-cells}
+use Rattle.scan.proofs.Samples.{Walk, At, along, gridStride, grid-stride-is, grid-stride-small, list-stride-is, row-places, row-cells}
 use Rattle.curve.specs.declared.Curve.{Curve}
 use Rattle.curve.specs.Curve.{curveOf}
 use Rattle.curve.specs.Machine.{InLimits, doubledAlong, startWalker}
@@ -38,15 +39,16 @@ module _ (c : Curve) (h : Strides) where
   start-on y-axis = refl
   start-on z-axis = refl
 
-  -- The walker starts at sample 0.
-  pub start-at : At (curveOf c) h (along []) (λ a. doubledAlong c (offset a)) 0 (startWalker c h)
-  unfolding cellOf cell walk exact
-  start-at = record {
-    on = λ a.
-        rw (start-on a)
-        (start-tracks (coordinate (c .points) a 0) (along-doubles c a)
-        (corner-value (coordinate (c .points) a) (first no-corner)) refl);
-  }
+-- The walker starts at sample 0, which lies in the cell of point 0.
+pub start-at : {S : ℕ} (c : Curve) → Drawable S (curveOf c) → (h : Strides) →
+    At (curveOf c) h (along []) (λ a. doubledAlong c (offset a)) 0 (startWalker c h)
+unfolding exact
+start-at c d h = record {
+  on = λ a.
+      rw (start-on c h a, corner-cell d (first no-corner) a)
+      (start-tracks (coordinate (c .points) a 0) (along-doubles c a)
+      (corner-value (coordinate (c .points) a) (first no-corner)) refl);
+}
 
 module _ {S : ℕ} (c : Curve) (twelve : length (c .points) ≡ 12) (d : Drawable S (curveOf c)) where
   abbrev limits : InLimits c
@@ -62,7 +64,7 @@ module _ {S : ℕ} (c : Curve) (twelve : length (c .points) ≡ 12) (d : Drawabl
     stride-is = is;
     stride-small = small;
     sample = λ i l. index l no-index;
-    moves = row-moves (curveOf c) [];
+    neighbours = λ i l. step l no-index;
     doubles = along-doubles c;
     room = λ a. along-room limits (offset a) (offset-small a);
   }
@@ -81,7 +83,7 @@ module _ {S : ℕ} (c : Curve) (twelve : length (c .points) ≡ 12) (d : Drawabl
   unfolding drawn cells
   drawn-row grid e =
       rw (e, one-row (c .steps), map-map)
-      (ap (λ ps. marked (c .mark) ps grid) (sym (row-places grid-row (start-at c (gridStrides S)))))
+      (ap (λ ps. marked (c .mark) ps grid) (sym (row-places grid-row (start-at c d (gridStrides S)))))
 
   -- What an accepted listing leaves are the cells of the row.
   pub listed-row : (list : List ℕ) → listVerdict S (length list) (curveOf c) ≡ accepted →
@@ -92,4 +94,4 @@ module _ {S : ℕ} (c : Curve) (twelve : length (c .points) ≡ 12) (d : Drawabl
   listed-row list e =
       let one : suc (c .steps) * 1 ≡ suc (c .steps) = omega arith in
       listed-accepted S (curveOf c) list e ∙
-      rw (one-row (c .steps), row-cells list-row (start-at c listStrides), one)
+      rw (one-row (c .steps), row-cells list-row (start-at c d listStrides), one)

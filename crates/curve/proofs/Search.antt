@@ -7,7 +7,7 @@ use lib.Dec.{T}
 use lib.IntN.{pos}
 use Rattle.bezier.specs.Exact.{no-index}
 use Rattle.decide.proofs.Truth.{true-of, false-of}
-use Rattle.walk.specs.Steps.{farApart, Neighbours, first, later}
+use Rattle.neighbours.specs.Steps.{farApart, Neighbours, first, later}
 use Rattle.cube.specs.Cube.{Axis}
 use Rattle.drawing.specs.Object.{offset, scaleOf, exact}
 use Rattle.drawing.specs.Refusals.{stepsTooLong}

@@ -13,8 +13,8 @@ use Rattle.decide.specs.Refusal.{accepted, firstThat}
 use Rattle.decide.proofs.Truth.{neither, not-less, less, equal, true-of, false-of, false-iff, decided}
 use Rattle.decide.proofs.Some.{some-of}
 use Rattle.decide.proofs.Refusal.{NoneApplies, accepted-none}
-use Rattle.walk.specs.Steps.{tooLong, LongStep}
-use Rattle.walk.proofs.Long.{too-long}
+use Rattle.neighbours.specs.Steps.{tooLong, LongStep}
+use Rattle.neighbours.proofs.Long.{too-long}
 use Rattle.cube.specs.Cube.{Axis, volume}
 use Rattle.drawing.specs.Object.{Object, scaleOf, exact}
 use Rattle.drawing.specs.Refusals.{countOut, coordinateOut, stepsTooLong, order, drawVerdict, listVerdict}

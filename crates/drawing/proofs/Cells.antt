@@ -2,32 +2,24 @@
 -- to the one before it; a corner's cell is its control point.
 use mathlib.Core.Path.{_≡_}
 use mathlib.Core.Logic.{⊎-elim}
-use mathlib.Core.List.{List, [], _∷_}
+use mathlib.Core.List.{List}
 use Prim.Native.Nat.{ℕ, _+_, _*_, _-_, _≤_, _<_}
 use native.Mathlib.Omega.{arith}
 use lib.Dec.{T, ltb}
 use lib.ListN.{length, getD, List·getD-eq-default}
-use Rattle.bezier.specs.Exact.{points, Sample, Corner, no-corner, first}
+use Rattle.bezier.specs.Exact.{points, Sample, Corner}
 use Rattle.bezier.proofs.Scale.{scale-positive}
-use Rattle.bezier.proofs.Ends.{corner-value, corner-sample}
+use Rattle.bezier.proofs.Ends.{corner-value}
 use Rattle.bezier.proofs.Mean.{value-below}
 use Rattle.decide.proofs.Truth.{decided, less, not-less}
-use Rattle.walk.specs.Walk.{withinHalf, NextTo}
-use Rattle.walk.specs.Steps.{Follows}
-use Rattle.walk.proofs.Half.{within-half, within-half-below, within-half-whole}
-use Rattle.walk.proofs.Accuracy.{origin, cell-within-half, follows-next-to}
+use Rattle.rounding.specs.Nearest.{Owns, withinHalf, AtMostOneApart, NextTo}
+use Rattle.rounding.proofs.Half.{within-half-below}
+use Rattle.rounding.proofs.Nearest.{nearest-owns, nearest-within-half, nearest-whole, nearest-next-to}
+use Rattle.neighbours.specs.Steps.{Neighbours, Follows}
+use Rattle.neighbours.proofs.Long.{not-far-apart, follows-neighbours}
 use Rattle.cube.specs.Cube.{Axis, Inside}
 use Rattle.drawing.specs.Object.{Object, scaleOf, coordinate, offset, exact, cellOf}
 use Rattle.drawing.specs.Refusals.{Drawable}
-
--- The sample with every index 0 is the corner of point 0.
-origin-corner : (ns : List ℕ) → Corner ns (origin ns) 0
-origin-corner [] = no-corner
-origin-corner (n ∷ ns) = first (origin-corner ns)
-
--- A value that is a whole number is within half a cell of it.
-whole-within-half : (s c : ℕ) → T (withinHalf s c (s * c))
-whole-within-half s c = within-half s c (s * c) .1 (omega arith, omega arith)
 
 module _ {S : ℕ} {o : Object} (d : Drawable S o) where
   -- The scale of a drawable object is not 0.
@@ -52,28 +44,34 @@ module _ {S : ℕ} {o : Object} (d : Drawable S o) where
       value-below (coordinate (o .points) a) (S - 1) b (λ k h. omega (arith, point-below a k)) in
       omega (arith, within-half-below (scaleOf o) c (exact o a is) (S - 1) scale-of-positive t top, d .side-least)
 
+  -- A sample's cell owns its exact value, on every axis.
+  pub cell-owns : (is : List ℕ) (a : Axis) → Owns (scaleOf o) (cellOf o is a) (exact o a is)
+  unfolding cellOf
+  cell-owns is a = nearest-owns scale-of-positive (exact o a is)
+
   -- A sample's cell is within half a cell of its exact value, on every axis.
-  pub cell-within : {is : List ℕ} → Sample (o .counts) is → (a : Axis) → T (withinHalf (scaleOf o) (cellOf o is a) (exact o a is))
-  unfolding cellOf exact
-  cell-within b a =
-      cell-within-half (scaleOf o) (coordinate (o .points) a 0) (exact o a) b
-      (rw (corner-value (coordinate (o .points) a) (origin-corner (o .counts)))
-      (whole-within-half (scaleOf o) (coordinate (o .points) a 0)))
-      (d .steps-short a)
+  pub cell-within : (is : List ℕ) (a : Axis) → T (withinHalf (scaleOf o) (cellOf o is a) (exact o a is))
+  unfolding cellOf
+  cell-within is a = nearest-within-half scale-of-positive (exact o a is)
 
   -- A sample's cell is a cell of the cube.
   pub cell-inside : {is : List ℕ} → Sample (o .counts) is → Inside S (cellOf o is)
-  cell-inside b a = near-inside a b (cell-within b a)
+  cell-inside {is} b a = near-inside a b (cell-within is a)
 
   -- A corner's cell is its control point: the first cell of a curve is point 0, the last point 3.
   pub corner-cell : {is : List ℕ} {p : ℕ} → Corner (o .counts) is p → (a : Axis) → cellOf o is a ≡ coordinate (o .points) a p
-  unfolding exact
-  corner-cell {is} {p} c a =
-      within-half-whole (scaleOf o) (cellOf o is a) (coordinate (o .points) a p) scale-of-positive
-      (rw (corner-value (coordinate (o .points) a) c) at (cell-within (corner-sample c) a))
+  unfolding cellOf exact
+  corner-cell {p} c a =
+      rw (corner-value (coordinate (o .points) a) c) (nearest-whole scale-of-positive (coordinate (o .points) a p))
 
--- The cells of samples that follow one another differ by at most one, on every axis.
-pub cells-next-to : (o : Object) {is js : List ℕ} → Follows (o .counts) is js → (a : Axis) →
-    NextTo (cellOf o is a) (cellOf o js a)
-unfolding cellOf
-cells-next-to o f a = follows-next-to (scaleOf o) (coordinate (o .points) a 0) (exact o a) f
+  -- Neighbouring samples are at most one cell apart.
+  pub neighbours-near : {is js : List ℕ} → Neighbours (o .counts) is js → (a : Axis) →
+      AtMostOneApart (scaleOf o) (exact o a is) (exact o a js)
+  neighbours-near {is} {js} n a =
+      not-far-apart (scaleOf o) (exact o a is) (exact o a js)
+      (λ t. d .steps-short a (record { from = is; to = js; neighbours = n; far = t }))
+
+  -- The cells of samples that follow one another differ by at most one, on every axis.
+  pub cells-next-to : {is js : List ℕ} → Follows (o .counts) is js → (a : Axis) → NextTo (cellOf o is a) (cellOf o js a)
+  unfolding cellOf
+  cells-next-to f a = nearest-next-to scale-of-positive (neighbours-near (follows-neighbours f) a)

@@ -10,7 +10,7 @@ use lib.ListN.{take}
 use Rattle.decide.specs.Refusal.{refused, firstThat, numbers}
 use Rattle.decide.proofs.Refusal.{NoneApplies, here, there, refused-first, passed-over, only-left}
 use Rattle.decide.proofs.Truth.{true-of}
-use Rattle.walk.specs.Steps.{LongStep}
+use Rattle.neighbours.specs.Steps.{LongStep}
 use Rattle.cube.specs.Cube.{Axis}
 use Rattle.drawing.specs.Object.{Object, scaleOf, exact}
 use Rattle.drawing.specs.Refusals.{order, stepsTooLong}

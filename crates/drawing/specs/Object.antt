@@ -1,10 +1,10 @@
--- Document 01, "The colour cube" and "Exact samples and the walk": the curve and the patch, their exact samples and
--- their cells.
+-- Document 01, "The colour cube" and "Exact samples and the walk", with document 02's A.3: the curve and the patch, their
+-- exact samples and their cells.
 use mathlib.Core.List.{List, [], _∷_}
 use Prim.Native.Nat.{ℕ, _+_, _*_}
 use lib.ListN.{getD}
 use Rattle.bezier.specs.Exact.{scale, value}
-use Rattle.walk.specs.Walk.{cell}
+use Rattle.rounding.specs.Nearest.{nearest}
 use Rattle.cube.specs.Cube.{Axis, x-axis, y-axis, z-axis, Cell}
 
 -- What a call draws: step counts, one a parameter, each 1 to `most`; the points' coordinates, three a point; a mark.
@@ -41,6 +41,6 @@ module _ (o : Object) where
   unfoldable pub exact : Axis → List ℕ → ℕ
   exact a is = value (o .counts) (coordinate (o .points) a) is
 
-  -- The cell of a sample: the walk from point 0, on each axis.
+  -- The cell of a sample: on each axis the coordinate of its exact value, and at a half the lower one.
   unfoldable pub cellOf : List ℕ → Cell
-  cellOf is a = cell scaleOf (coordinate (o .points) a 0) (exact a) is
+  cellOf is a = nearest scaleOf (exact a is)

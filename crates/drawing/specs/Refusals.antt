@@ -6,7 +6,7 @@ use lib.Dec.{ltb, eqb}
 use lib.ListN.{length, getD}
 use Rattle.decide.specs.Some.{someOf}
 use Rattle.decide.specs.Refusal.{Rule, _when_, Verdict, firstThat}
-use Rattle.walk.specs.Steps.{tooLong, LongStep}
+use Rattle.neighbours.specs.Steps.{tooLong, LongStep}
 use Rattle.cube.specs.Cube.{Axis, sideOut, someAxis, volume}
 use Rattle.drawing.specs.Object.{Object, scaleOf, exact}
 

@@ -21,15 +21,6 @@ within-pos h = record { size = h }
 pub within-weaken : {M N : ℕ} {z : ℤ} → Within M z → M ≤ N → Within N z
 within-weaken b h = record { size = omega arith }
 
-module _ {M : ℕ} {z : ℤ} where
-  -- An integer within M is at most M.
-  pub within-upper : Within M z → z ≤ℤ pos M
-  within-upper = rw (val-of z) (simp zval (omega arith))
-
-  -- And at least -M.
-  pub within-lower : Within M z → (pos 0 -ℤ pos M) ≤ℤ z
-  within-lower = rw (val-of z) (simp zval (omega arith))
-
 module _ {M N : ℕ} {x y : ℤ} where
   -- The bound of a sum is the sum of the bounds.
   pub within-add : Within M x → Within N y → Within (M + N) (x +ℤ y)

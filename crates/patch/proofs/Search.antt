@@ -7,12 +7,12 @@ use mathlib.Core.List.{List, [], _∷_}
 use Prim.Native.Nat.{ℕ, suc, _≤_, _<_}
 use native.Mathlib.Omega.{arith}
 use lib.Dec.{T}
-use lib.IntN.{ℤ, pos, _-ℤ_}
+use lib.IntN.{pos, _-ℤ_}
 use Rattle.integers.proofs.Magnitude.{within-pos}
 use Rattle.bezier.specs.Exact.{no-index, index}
 use Rattle.decide.proofs.Truth.{decided, true-of, false-of}
-use Rattle.walk.specs.Steps.{farApart, Neighbours, first, later, tooLong}
-use Rattle.walk.proofs.Long.{too-long}
+use Rattle.neighbours.specs.Steps.{farApart, Neighbours, first, later, tooLong}
+use Rattle.neighbours.proofs.Long.{too-long}
 use Rattle.cube.specs.Cube.{Axis, x-axis, y-axis, z-axis, someAxis}
 use Rattle.drawing.specs.Object.{offset, coordinate, scaleOf, exact}
 use Rattle.drawing.specs.Refusals.{stepsTooLong}

@@ -1,5 +1,6 @@
--- The walk through a patch's rows. The walk along u through t = 0 gives each row's first cell and remainder, and the
--- cubics beside it the row's differences along t; each row then walks along t.
+-- The walk through a patch's rows. The walk along u through t = 0 stands in the cell of each row's first sample, with its
+-- remainder, and that is all that a row needs of it: coordinate and remainder are the sample's value. The cubics beside it
+-- hold the row's differences along t.
 use mathlib.Core.Path.{_≡_, refl, _∙_, ap}
 use mathlib.Core.List.{List, [], _∷_, _++_, map, map-append, map-map, append-nil}
 use Prim.Native.Nat.{ℕ, zero, suc, _*_, _≤_, _<_, zero-le}
@@ -10,12 +11,13 @@ use lib.ListN.{length}
 use Rattle.bezier.specs.Exact.{Sample, no-index, index, no-corner, first}
 use Rattle.bezier.proofs.Ends.{corner-value}
 use Rattle.decide.specs.Refusal.{accepted}
-use Rattle.walk.specs.Walk.{walk, cell, move}
+use Rattle.neighbours.specs.Steps.{Neighbours, later, first as step}
 use Rattle.cube.specs.Cube.{Axis, x-axis, y-axis, z-axis, place}
 use Rattle.drawing.specs.Object.{offset, coordinate, scaleOf, exact, cellOf}
 use Rattle.drawing.specs.Refusals.{Drawable, drawVerdict}
 use Rattle.drawing.specs.Drawing.{row, rows, samples, marked, cells, drawn}
 use Rattle.drawing.proofs.Samples.{rows-append, one-row}
+use Rattle.drawing.proofs.Cells.{corner-cell}
 use Rattle.cubic.specs.Axis.{startOf}
 use Rattle.cubic.specs.Differences.{delta, differencesAt, nextOf}
 use Rattle.cubic.specs.Room.{Room}
@@ -27,7 +29,7 @@ use Rattle.scan.specs.declared.walker.Strides.{Strides}
 use Rattle.scan.specs.declared.walker.Walker.{Walker}
 use Rattle.scan.specs.Walker.{axisOf, strideOf, gridStrides, placeOf, walkers, OnGrid}
 use Rattle.scan.proofs.Axes.{offset-small}
-use Rattle.scan.proofs.Samples.{Walk, At, along, row-moves, at-next, at-steps, gridStride, grid-stride-is, grid-stride-small}
+use Rattle.scan.proofs.Samples.{Walk, At, along, at-next, at-steps, gridStride, grid-stride-is, grid-stride-small}
 use Rattle.scan.proofs.Samples.{row-on-grid, row-places}
 use Rattle.patch.specs.declared.Patch.{Patch}
 use Rattle.patch.specs.declared.rows.Line.{Line}
@@ -80,13 +82,13 @@ module _ (p : Patch) (h : Strides) where
   start-on y-axis = refl
   start-on z-axis = refl
 
-  -- The lines start at row 0.
-  pub start-on-row : OnRow p h 0 (startLines p h)
-  unfolding cellOf cell walk exact delta surfaceAlong
-  start-on-row = record {
+  -- The lines start at row 0, whose first sample lies in the cell of point 0.
+  pub start-on-row : {S : ℕ} → Drawable S (patchOf p) → OnRow p h 0 (startLines p h)
+  unfolding exact delta surfaceAlong
+  start-on-row d = record {
     walk = record {
       on = λ a.
-          rw (along-u-on (startLines p h) a, start-on a)
+          rw (along-u-on (startLines p h) a, start-on a, corner-cell d (first (first no-corner)) a)
           (start-tracks (coordinate (p .points) a 0) (line-follows p a zero-le)
           (corner-value (coordinate (p .points) a) (first (first no-corner))) refl);
     };
@@ -123,36 +125,34 @@ module _ {S : ℕ} (p : Patch) (l : InLimits p) (d : Drawable S (patchOf p)) whe
   abbrev N : ℤ
   N = pos (scaleOf (patchOf p))
 
-  -- A walk in the grid, from what is its own: samples, moves, doubled values and their room.
+  -- A walk in the grid, from what is its own: samples, neighbours, doubled values and their room.
   grid-walk : {n : ℕ} {σ : ℕ → List ℕ} {P : Axis → ℕ → ℤ} → ((i : ℕ) → i ≤ n → Sample (p .n ∷ p .m ∷ []) (σ i)) →
-      ((a : Axis) (i : ℕ) →
-      cellOf (patchOf p) (σ (suc i)) a ≡
-      move (scaleOf (patchOf p)) (cellOf (patchOf p) (σ i) a) (exact (patchOf p) a (σ (suc i)))) →
+      ((i : ℕ) → i < n → Neighbours (p .n ∷ p .m ∷ []) (σ i) (σ (suc i))) →
       ((a : Axis) → Doubles n (λ i. exact (patchOf p) a (σ i)) (P a)) →
       ((a : Axis) (i : ℕ) → i ≤ n → Room (differencesAt (P a) i)) → Walk S (patchOf p) (gridStrides S) n σ P
-  grid-walk sample moves doubles room = record {
+  grid-walk sample neighbours doubles room = record {
     drawable = d;
     scale-small = scale-small l;
     stride = gridStride S;
     stride-is = grid-stride-is S;
     stride-small = grid-stride-small (d .side-most);
     sample = sample;
-    moves = moves;
+    neighbours = neighbours;
     doubles = doubles;
     room = room;
   }
 
   -- The walk along u, and a row.
   u-walk : Walk S (patchOf p) (gridStrides S) (p .m) first-of (λ a. doubledAlong p (offset a) 0)
-  unfolding cellOf cell walk delta
+  unfolding delta
   u-walk =
-      grid-walk (λ j hj. index zero-le (index hj no-index)) (λ a j. refl) (λ a. line-follows p a zero-le)
-      (λ a j hj. cubic-room l (offset-small a) zero-le hj 0 (lit< tt))
+      grid-walk (λ j hj. index zero-le (index hj no-index)) (λ j hj. later zero-le (step hj no-index))
+      (λ a. line-follows p a zero-le) (λ a j hj. cubic-room l (offset-small a) zero-le hj 0 (lit< tt))
 
   t-walk : {j : ℕ} → j ≤ p .m →
       Walk S (patchOf p) (gridStrides S) (p .n) (along (j ∷ [])) (λ a i. doubledAlong p (offset a) i j)
   t-walk {j} hj =
-      grid-walk (λ i hi. index hi (index hj no-index)) (row-moves (patchOf p) (j ∷ [])) (λ a. row-follows p a hj)
+      grid-walk (λ i hi. index hi (index hj no-index)) (λ i hi. step hi (index hj no-index)) (λ a. row-follows p a hj)
       (λ a i hi. row-room l (offset-small a) hi hj)
 
   module _ {j : ℕ} {lines : Lines} (o : OnRow p (gridStrides S) j lines) where
@@ -212,9 +212,9 @@ module _ (S : ℕ) (p : Patch) where
   drawn-rows grid e = rw (e, map-map) (ap (λ l. marked (p .mark) (map (λ s. place S (cellOf (patchOf p) s)) (rows (p .n) l)) grid) (one-row (p .m)))
 
 -- Row 0, with the strides as the code holds them.
-pub lines-start : {S : ℕ} (p : Patch) {h : Strides} {lines : Lines} → h ≡ gridStrides S → lines ≡ startLines p h →
-    OnRow p (gridStrides S) 0 lines
-lines-start {S} p f q = rw (q, f) (start-on-row p (gridStrides S))
+pub lines-start : {S : ℕ} (p : Patch) → Drawable S (patchOf p) → {h : Strides} {lines : Lines} →
+    h ≡ gridStrides S → lines ≡ startLines p h → OnRow p (gridStrides S) 0 lines
+lines-start {S} p d f q = rw (q, f) (start-on-row p (gridStrides S) d)
 
 -- The same with the scale N and the strides h as the code holds them.
 module _ {S : ℕ} (p : Patch) (l : InLimits p) (d : Drawable S (patchOf p)) {N : ℤ} {h : Strides} (e : N ≡ pos (scaleOf (patchOf p)))

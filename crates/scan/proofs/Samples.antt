@@ -1,5 +1,5 @@
--- Walkers follow samples. A walker that stands at the first sample of a walk stands at sample i after i steps: its
--- positions are those of the sample's cell, and there is room for each step.
+-- Walkers follow samples. A walker that stands at the first of samples in turn, each a neighbour of the last, stands at
+-- sample i after i steps: its positions are those of the sample's cell, and there is room for each step.
 use mathlib.Core.Path.{_≡_, refl, sym, _∙_, ap, ap₂, fun-ext}
 use mathlib.Core.List.{List, [], _∷_, _++_, map, map-append}
 use Prim.Native.Nat.{ℕ, zero, suc, _+_, _*_, _≤_, _<_, _^_, zero-le}
@@ -9,17 +9,17 @@ use lib.Dec.{lit≤}
 use lib.IntN.{ℤ, pos, natAbs, _*ℤ_}
 use Rattle.integers.proofs.Magnitude.{within-pos}
 use Rattle.bezier.specs.Exact.{Sample}
-use Rattle.walk.specs.Walk.{move, cell, walk}
+use Rattle.neighbours.specs.Steps.{Neighbours}
 use Rattle.cube.specs.Cube.{Axis, x-axis, y-axis, z-axis, volume, place}
 use Rattle.cube.proofs.Places.{place-below}
 use Rattle.drawing.specs.Object.{Object, scaleOf, exact, cellOf}
 use Rattle.drawing.specs.Refusals.{Drawable}
 use Rattle.drawing.specs.Drawing.{row}
-use Rattle.drawing.proofs.Cells.{cell-within, cell-inside}
+use Rattle.drawing.proofs.Cells.{cell-owns, cell-inside, neighbours-near}
 use Rattle.cubic.specs.Differences.{differencesAt}
 use Rattle.cubic.specs.Room.{Room}
 use Rattle.cubic.specs.Tracks.{Doubles, Tracks}
-use Rattle.cubic.proofs.Tracks.{step-tracks, remainder-half}
+use Rattle.cubic.proofs.Tracks.{step-tracks, remainder-owns}
 use Rattle.cubic.proofs.Levels.{tracks-steps}
 use Rattle.scan.specs.declared.walker.Walker.{Walker}
 use Rattle.scan.specs.declared.walker.Strides.{Strides}
@@ -27,8 +27,8 @@ use Rattle.scan.specs.Walker.{axisOf, strideOf, gridStrides, listStrides
 use Rattle.scan.specs.Walker.{cellOfWalker, walkers, OnGrid, OnList}
 use Rattle.scan.proofs.Natural.{square-at-most}
 
--- A walk of n steps through the samples σ 0 to σ n of a drawable object, each cell one move from the last: a curve, a row
--- of a patch, or the walk along u. P doubles the exact values and has room at every sample, and strides are up to 4096.
+-- A walk of n steps through the samples σ 0 to σ n of a drawable object, each a neighbour of the last: a curve, a row of a
+-- patch, or the walk along u. P doubles the exact values and has room at every sample, and strides are up to 4096.
 pub record Walk (S : ℕ) (o : Object) (h : Strides) (n : ℕ) (σ : ℕ → List ℕ) (P : Axis → ℕ → ℤ) : Type 0 where
   pub drawable : Drawable S o
   pub scale-small : scaleOf o ≤ 2 ^ 60
@@ -36,8 +36,7 @@ pub record Walk (S : ℕ) (o : Object) (h : Strides) (n : ℕ) (σ : ℕ → Lis
   pub stride-is : (a : Axis) → strideOf h a ≡ pos (stride a)
   pub stride-small : (a : Axis) → stride a ≤ 4096
   pub sample : (i : ℕ) → i ≤ n → Sample (o .counts) (σ i)
-  pub moves : (a : Axis) (i : ℕ) →
-      cellOf o (σ (suc i)) a ≡ move (scaleOf o) (cellOf o (σ i) a) (exact o a (σ (suc i)))
+  pub neighbours : (i : ℕ) → i < n → Neighbours (o .counts) (σ i) (σ (suc i))
   pub doubles : (a : Axis) → Doubles n (λ i. exact o a (σ i)) (P a)
   pub room : (a : Axis) (i : ℕ) → i ≤ n → Room (differencesAt (P a) i)
 
@@ -48,12 +47,6 @@ pub record At (o : Object) (h : Strides) (σ : ℕ → List ℕ) (P : Axis → �
 -- The samples of a row: the first index runs, the later ones are fixed.
 abbrev pub along : List ℕ → ℕ → List ℕ
 along is i = i ∷ is
-
--- Along a row each cell is one move from the last.
-pub row-moves : (o : Object) (is : List ℕ) (a : Axis) (i : ℕ) →
-    cellOf o (suc i ∷ is) a ≡ move (scaleOf o) (cellOf o (i ∷ is) a) (exact o a (suc i ∷ is))
-unfolding cellOf cell walk
-row-moves o is a i = refl
 
 -- A grid's strides.
 pub gridStride : ℕ → Axis → ℕ
@@ -104,7 +97,10 @@ module _ {S : ℕ} {o : Object} {h : Strides} {n : ℕ} {σ : ℕ → List ℕ} 
   -- A step leads to the next sample.
   pub at-next : {i : ℕ} {w : Walker} → i < n → At o h σ P i w → At o h σ P (suc i) (stepAll N h w)
   at-next {i} {w} l t = record {
-    on = λ a. rw (step-on N h w a, r .moves a i) (step-tracks (r .doubles a) l (t .on a));
+    on = λ a.
+        rw (step-on N h w a)
+        (step-tracks (r .doubles a) l (cell-owns (r .drawable) (σ i) a)
+        (neighbours-near (r .drawable) (r .neighbours i l) a) (cell-owns (r .drawable) (σ (suc i)) a) (t .on a));
   }
 
   -- After i steps the walker stands at sample i.
@@ -124,8 +120,7 @@ module _ {S : ℕ} {o : Object} {h : Strides} {n : ℕ} {σ : ℕ → List ℕ} 
       on = λ a.
           rw (r .stride-is a)
           (tracks-steps (P a) i (rw (r .stride-is a) at (t .on a)) (r .room a i l)
-          (remainder-half (t .on a) (exact o a (σ i)) (r .doubles a .agrees i l) .1
-          (cell-within (r .drawable) (r .sample i l) a))
+          (remainder-owns (t .on a) (exact o a (σ i)) (r .doubles a .agrees i l) .1 (cell-owns (r .drawable) (σ i) a))
           (r .scale-small) (r .stride-small a) (below a));
     }
 

@@ -4,8 +4,8 @@ use Rattle.bezier.specs.Exact.{blend, scale, points, value}
 use Rattle.decide.specs.Some.{someBelow, someOf}
 use Rattle.decide.specs.Same.{sameBytes}
 use Rattle.decide.specs.Refusal.{firstThat}
-use Rattle.walk.specs.Walk.{withinHalf, towards, move, walk, cell}
-use Rattle.walk.specs.Steps.{farApart, someSample, tooLong}
+use Rattle.rounding.specs.Nearest.{nearest}
+use Rattle.neighbours.specs.Steps.{farApart, someSample, tooLong}
 use Rattle.cube.specs.Cube.{someAxis, sideOut, place}
 use Rattle.drawing.specs.Object.{offset, coordinate, exact, cellOf}
 use Rattle.drawing.specs.Refusals.{countOut, coordinateOut, stepsTooLong, order, drawVerdict}
@@ -17,7 +17,7 @@ use Rattle.sheet.specs.Printed.{cubeOf, cellLine, cellLines, listing, re
 use Rattle.sheet.specs.Known.{times, known, allPrint}
 
 pub known-print : T (allPrint output known)
-unfolding blend scale points value someBelow someOf firstThat withinHalf towards move walk cell farApart someSample tooLong
+unfolding blend scale points value someBelow someOf firstThat nearest farApart someSample tooLong
     someAxis sideOut place offset coordinate exact cellOf countOut coordinateOut stepsTooLong order drawVerdict row rows
     samples marked cells drawn isDigit areDigits afterBlanks isNumber digitsOf isBad decimal valueOf inColumns
     before lines isWrong someBad inLine sideOrder markOut curveOrder judgeCurves judgeLines judge inTurn cubeOf cellLine

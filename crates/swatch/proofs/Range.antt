@@ -1,20 +1,26 @@
--- The channels of a swatch with no refusal lie from 0 to 1.
+-- The channels of a swatch with no refusal lie from 0 to 1, so its cell lies in the cube.
 use mathlib.Core.Path.{_≡_, refl, sym, _∙_, subst}
 use mathlib.Core.Bool.{true, _&&_}
 use mathlib.Core.List.{_++_}
+use Prim.Native.Nat.{ℕ, _<_}
 use lib.Dec.{T}
 use lib.Ieee.{Float}
 use Rattle.decide.specs.Refusal.{Verdict, firstThat, orElse, accepted, refused}
 use Rattle.decide.proofs.Truth.{both}
-use Rattle.decide.proofs.Refusal.{first-append-three, append-passes, accepted-append-three}
+use Rattle.decide.proofs.Refusal.{first-append-three, append-passes, accepted-passes, accepted-append-three}
+use Rattle.cube.specs.Cube.{sideOut}
+use Rattle.cube.proofs.Words.{side-in}
 use Rattle.channel.specs.Channel.{inRange, channelRefusals}
 use Rattle.channel.specs.Rgb.{rgbRefusals, AllInRange}
 use Rattle.channel.proofs.Range.{range-accepted, channel-in-range}
+use Rattle.channel.proofs.FromBits.{coordinate-below}
 use Rattle.channel.specs.declared.Rgb.{Rgb}
 use Rattle.hsv.proofs.InRange.{channels-in-range, hsv-in-range}
+use Rattle.swatch.specs.declared.Cell.{Cell}
 use Rattle.swatch.specs.declared.Swatch.{Swatch}
 use Rattle.swatch.specs.declared.Swatch.the-variants.{Color, Grey, Hue}
 use Rattle.swatch.specs.Swatch.{channelsOf, swatchRefusals}
+use Rattle.swatch.specs.ToCell.{AcceptedCell}
 
 -- The number of a grey is that of its one channel.
 pub grey-first : (g : Float) → firstThat (swatchRefusals (Grey g)) ≡ firstThat (channelRefusals g)
@@ -57,3 +63,16 @@ pub swatch-in-range : (w : Swatch) → firstThat (swatchRefusals w) ≡ accepted
 swatch-in-range (Color c) h = rgb-in-range c h
 swatch-in-range (Grey g) h = rgb-in-range (channelsOf (Grey g)) h
 swatch-in-range (Hue w) h = channels-in-range w (hsv-in-range w h)
+
+-- The cell of an accepted swatch lies in the cube, so it may be a control point.
+pub cell-in-cube : (S : ℕ) (w : Swatch) (r : Cell) → AcceptedCell S w r → (r .x < S) × (r .y < S) × (r .z < S)
+cell-in-cube S w r a =
+    let passed = accepted-passes 11 (sideOut S) (swatchRefusals w) (a .no-number) in
+    let side = side-in S .0 (λ t. subst T (passed .0) t) in
+    let range = swatch-in-range w (passed .1) in
+    let c = channelsOf w in
+    rw (a .cell .x, a .cell .y, a .cell .z) (
+      coordinate-below S (c .red) (side .0) (range .red),
+      coordinate-below S (c .green) (side .0) (range .green),
+      coordinate-below S (c .blue) (side .0) (range .blue),
+    )

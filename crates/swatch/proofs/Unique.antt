@@ -1,8 +1,6 @@
 -- Each contract fixes its answer: two answers of which it holds are equal.
 use mathlib.Core.Path.{_≡_, sym, _∙_, ap}
-use Prim.Native.Nat.{ℕ, _-_, _*_}
-use lib.Ieee.{Float}
-use lib.Ieee.Positive.{num, den}
+use Prim.Native.Nat.{ℕ}
 use Rattle.channel.specs.declared.Rgb.{Rgb}
 use Rattle.swatch.specs.declared.Cell.{Cell}
 use Rattle.swatch.specs.declared.Swatch.{Swatch}
@@ -10,21 +8,15 @@ use Rattle.swatch.specs.declared.CellAnswer.{CellAnswer}
 use Rattle.swatch.specs.declared.CellAnswer.the-variants as cell
 use Rattle.swatch.specs.declared.HalfWayAnswer.{HalfWayAnswer}
 use Rattle.swatch.specs.declared.HalfWayAnswer.the-variants as half
-use Rattle.channel.specs.Coordinate.{IsCoordinate}
 use Rattle.swatch.specs.ToCell.{IsCell, CellSays}
 use Rattle.swatch.specs.HalfWay.{IsHalfWay, HalfWaySays}
-use Rattle.channel.proofs.Owns.{owns-unique}
-
--- A channel has one coordinate.
-pub coordinate-unique : (S : ℕ) (v : Float) (b c : ℕ) → IsCoordinate S v b → IsCoordinate S v c → b ≡ c
-coordinate-unique S v b c h k = owns-unique b c (num v * (S - 1)) (den v) (h .owns) (k .owns)
 
 -- Three channels have one cell.
 pub cell-unique : (S : ℕ) (c : Rgb) (r t : Cell) → IsCell S c r → IsCell S c t → r ≡ t
 cell-unique S c r t h k =
-    let x = coordinate-unique S (c .red) (r .x) (t .x) (h .x) (k .x) in
-    let y = coordinate-unique S (c .green) (r .y) (t .y) (h .y) (k .y) in
-    let z = coordinate-unique S (c .blue) (r .z) (t .z) (h .z) (k .z) in
+    let x = h .x ∙ sym (k .x) in
+    let y = h .y ∙ sym (k .y) in
+    let z = h .z ∙ sym (k .z) in
     let e : _≡_ {A = Cell} (record { x = r .x; y = r .y; z = r .z }) (record { x = t .x; y = t .y; z = t .z }) = cc in
     e
 

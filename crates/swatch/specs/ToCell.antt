@@ -9,7 +9,7 @@ use Rattle.swatch.specs.declared.Cell.{Cell}
 use Rattle.swatch.specs.declared.Swatch.{Swatch}
 use Rattle.swatch.specs.declared.CellAnswer.{CellAnswer}
 use Rattle.swatch.specs.declared.CellAnswer.the-variants.{Refused, Found}
-use Rattle.channel.specs.Coordinate.{IsCoordinate}
+use Rattle.channel.specs.Coordinate.{coordinateOf}
 use Rattle.swatch.specs.Swatch.{channelsOf, swatchRefusals}
 
 -- 11, then the swatch's.
@@ -20,9 +20,9 @@ cellRefusals S w =
 
 -- Red, green, blue become x, y, z.
 pub record IsCell (S : ℕ) (c : Rgb) (r : Cell) : Type 0 where
-  pub x : IsCoordinate S (c .red) (r .x)
-  pub y : IsCoordinate S (c .green) (r .y)
-  pub z : IsCoordinate S (c .blue) (r .z)
+  pub x : r .x ≡ coordinateOf S (c .red)
+  pub y : r .y ≡ coordinateOf S (c .green)
+  pub z : r .z ≡ coordinateOf S (c .blue)
 
 -- No number applies, and r is the cell of the swatch's channels.
 pub record AcceptedCell (S : ℕ) (w : Swatch) (r : Cell) : Type 0 where

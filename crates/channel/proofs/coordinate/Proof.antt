@@ -11,7 +11,7 @@ use Rattle.channel.specs.Channel.{inRange}
 use Rattle.channel.proofs.Order.{range-no-nan}
 use Rattle.channel.proofs.Bits.{fractionField}
 use Rattle.channel.proofs.Raised.{Raised, raised-small, raised-large, field-ge, field-le, field-is}
-use Rattle.channel.proofs.FromBits.{product-le, raised-coordinate}
+use Rattle.channel.proofs.FromBits.{product-le, coordinate-below, raised-coordinate}
 use Rattle.channel.proofs.coordinate.Statement.{statement}
 use Rattle.channel.proofs.coordinate.Tie as tie
 
@@ -28,7 +28,7 @@ raised c =
 returns : tie.Need-returns
 returns c =
     let s = c .before in
-    raised-coordinate (s .args .side) (s .args .v) (c .if1 .raised) (s .pre .0 .0) (s .pre .0 .1) (s .pre .1) (raised c)
+    raised-coordinate (s .args .side) (s .args .v) (c .if1 .raised) (s .pre .0 .0) (s .pre .0 .1) (raised c)
 
 -- The exponent's field of the raised channel.
 field : (c : tie.Joined1) → let x = toBits binary32 (c .if1 .raised) / 8388608 in (120 ≤ x) × (x ≤ 127)
@@ -69,7 +69,9 @@ add-c c =
     omega (arith, product-le b (s .args .side) (s .pre .0 .1), shr-le (w - 1) (149 - b / 8388608))
 
 cast-result : tie.Need-cast-result
-cast-result c = omega (arith, returns c .inside, c .before .pre .0 .1)
+cast-result c =
+    let s = c .before in
+    omega (arith, returns c, coordinate-below (s .args .side) (s .args .v) (s .pre .0 .0) (s .pre .1), s .pre .0 .1)
 
 pub coordinate-spec : {M : Type 1} → statement M
 coordinate-spec =

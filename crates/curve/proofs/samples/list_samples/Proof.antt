@@ -44,7 +44,7 @@ list-row-requires c κs =
     let s = b .before .before .before in
     let w = list-accepted (s .args .side) (curveOf (s .args .curve)) _ .0 (s .pre) in
     rw (scale-held (limits s) (b .cubed .ensures) .same, b .before .start-walker .ensures)
-    (row-on-list (list-row (s .args .curve) (twelve s) (drawable s)) (start-at (s .args .curve) listStrides)
+    (row-on-list (list-row (s .args .curve) (twelve s) (drawable s)) (start-at (s .args .curve) (drawable s) listStrides)
     (room (s .args .curve) (w .1)))
 
 same-length : tie.Need-same-length

@@ -41,7 +41,7 @@ mark-row-requires c κs =
     let s = b .before .before .before .before in
     let w = draw-accepted (s .args .side) (curveOf (s .args .curve)) _ .0 (s .pre) in
     rw (scale-held (limits s) (b .cubed .ensures) .same, b .before .start-walker .ensures, b .before .before .grid-strides .ensures, w .1)
-    (row-on-grid (grid-row (s .args .curve) (twelve s) (drawable s)) (start-at (s .args .curve) (gridStrides (s .args .side))))
+    (row-on-grid (grid-row (s .args .curve) (twelve s) (drawable s)) (start-at (s .args .curve) (drawable s) (gridStrides (s .args .side))))
 
 same-length : tie.Need-same-length
 same-length c = search needs

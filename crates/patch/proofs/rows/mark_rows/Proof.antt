@@ -93,7 +93,7 @@ start-lines-on : (c : tie.After-start-lines Inv-loop μ-loop) →
     OnRow (patch s) (gridStrides (s .args .side)) 0 (c .start-lines .result)
 start-lines-on c =
     let s = c .before .before .before .before in
-    lines-start (patch s) (c .before .before .grid-strides .ensures) (c .start-lines .ensures)
+    lines-start (patch s) (drawable s) (c .before .before .grid-strides .ensures) (c .start-lines .ensures)
 
 row-requires : tie.Need-row-requires Inv-loop μ-loop
 row-requires c κs = tt

@@ -6,7 +6,7 @@ use Prim.Native.Nat.{_+_, _^_}
 use borrow.Author.Needs.{needs}
 use lib.Dec.{lit<}
 use lib.IntN.{ℤ, pos, _+ℤ_, _-ℤ_}
-use lib.Signed.{ltZ}
+use lib.Signed.{ltZ, leZ}
 use mir.Syntax.{w64}
 use mir.Val.{toZ}
 use Rattle.cubic.specs.declared.axis.Axis.{Axis}
@@ -49,7 +49,7 @@ module _ {N h : ℤ} {a : Axis} (p : Settles N h a) where
   above : {b : Bool} → ltZ (read N) (read (a .cubic .value)) ≡ b → ltZ N (a .cubic .value) ≡ b
   above t = rw (scale .same, value .same) at t
 
-  below : {b : Bool} → ltZ (read (a .cubic .value)) (read (pos 0 -ℤ read N)) ≡ b → ltZ (a .cubic .value) (pos 0 -ℤ N) ≡ b
+  below : {b : Bool} → leZ (read (a .cubic .value)) (read (pos 0 -ℤ read N)) ≡ b → leZ (a .cubic .value) (pos 0 -ℤ N) ≡ b
   below t = rw (value .same, low .same) at t
 
   -- What is handed back: a position and a remainder beside the differences as they were.
@@ -66,12 +66,12 @@ module _ {N h : ℤ} {a : Axis} (p : Settles N h a) where
   goes-up e f t = simp (e, f, d1, d2, d3, t)
 
   goes-down : {x r : ℤ} → x ≡ a .at -ℤ h → r ≡ a .cubic .value +ℤ (N +ℤ N) → ltZ N (a .cubic .value) ≡ false →
-      ltZ (a .cubic .value) (pos 0 -ℤ N) ≡ true → handed x r ≡ settleOf N h a
+      leZ (a .cubic .value) (pos 0 -ℤ N) ≡ true → handed x r ≡ settleOf N h a
   unfolding settleOf
   goes-down e f t u = simp (e, f, d1, d2, d3, t, u)
 
   stays : {x r : ℤ} → x ≡ a .at → r ≡ a .cubic .value → ltZ N (a .cubic .value) ≡ false →
-      ltZ (a .cubic .value) (pos 0 -ℤ N) ≡ false → handed x r ≡ settleOf N h a
+      leZ (a .cubic .value) (pos 0 -ℤ N) ≡ false → handed x r ≡ settleOf N h a
   unfolding settleOf
   stays e f t u = simp (e, f, d1, d2, d3, t, u)
 

@@ -1,26 +1,18 @@
--- Within half a cell as two inequalities, and what follows for a coordinate: it is the whole number that the value
--- is, where the value is one, and it passes no whole number that the value does not pass.
+-- Within half a cell as two inequalities, and what follows for a coordinate, whichever way a half goes: it is the whole
+-- number that the value is, where the value is one, and it passes no whole number that the value does not pass.
 use mathlib.Core.Path.{_≡_}
-use mathlib.Core.Logic.{_↔_, Iff·rfl, _⊎_, inl, inr, ⊎-elim}
+use mathlib.Core.Logic.{_↔_, Iff·rfl}
 use Prim.Native.Nat.{ℕ, _+_, _*_, _≤_, _<_}
 use native.Mathlib.Nat.{le-refl, mul-le-mul-left}
 use native.Mathlib.Omega.{arith}
-use lib.Dec.{T, leb, leb→le}
-use Rattle.decide.proofs.Truth.{both, at-most, not-at-most, decided}
-use Rattle.walk.specs.Walk.{withinHalf}
+use lib.Dec.{T}
+use Rattle.decide.proofs.Truth.{both, at-most}
+use Rattle.rounding.specs.Nearest.{withinHalf}
 
 -- The doubled value and the doubled coordinate differ by at most the scale.
 pub within-half : (s c v : ℕ) → T (withinHalf s c v) ↔ ((2 * v ≤ 2 * (s * c) + s) × (2 * (s * c) ≤ 2 * v + s))
 unfolding withinHalf
 within-half s c v = simp (both, at-most) Iff·rfl
-
--- Beyond half a cell the value lies above or below.
-pub beyond-half : (s c v : ℕ) → ¬ T (withinHalf s c v) → (2 * (s * c) + s < 2 * v) ⊎ (2 * v + s < 2 * (s * c))
-beyond-half s c v f =
-    ⊎-elim
-    (λ t. inr (not-at-most (2 * (s * c)) (2 * v + s) (λ u. f (within-half s c v .1 (leb→le _ _ t, leb→le _ _ u)))))
-    (λ n. inl (not-at-most (2 * v) (2 * (s * c) + s) n))
-    (decided (leb (2 * v) (2 * (s * c) + s)))
 
 -- A coordinate within half a cell of a value is at most any whole number that the value is at most.
 pub within-half-below : (s c v m : ℕ) → 0 < s → T (withinHalf s c v) → v ≤ s * m → c ≤ m

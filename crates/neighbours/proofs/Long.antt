@@ -10,7 +10,8 @@ use Rattle.bezier.specs.Exact.{Sample, no-index, index}
 use Rattle.decide.specs.Some.{someBelow}
 use Rattle.decide.proofs.Truth.{either, less}
 use Rattle.decide.proofs.Some.{some-below}
-use Rattle.walk.specs.Steps.{farApart, someSample, tooLong, Neighbours, first, later, LongStep}
+use Rattle.rounding.specs.Nearest.{AtMostOneApart}
+use Rattle.neighbours.specs.Steps.{farApart, someSample, tooLong, Neighbours, first, later, LongStep, Follows, next}
 
 -- Two values lie more than one cell apart: one exceeds the other by more than the scale.
 pub far-apart : (s v w : ℕ) → T (farApart s v w) ↔ ((v + s < w) ⊎ (w + s < v))
@@ -19,6 +20,13 @@ far-apart s v w = (
   λ t. ⊎-elim (λ a. inl (less _ _ .0 a)) (λ b. inr (less _ _ .0 b)) (either (ltb (v + s) w) (ltb (w + s) v) .0 t),
   λ h. either (ltb (v + s) w) (ltb (w + s) v) .1 (⊎-elim (λ a. inl (less _ _ .1 a)) (λ b. inr (less _ _ .1 b)) h),
 )
+
+-- Otherwise they are at most one cell apart.
+pub not-far-apart : (s v w : ℕ) → ¬ T (farApart s v w) → AtMostOneApart s v w
+not-far-apart s v w near =
+    let up : ¬ (v + s < w) = λ l. near (far-apart s v w .1 (inl l)) in
+    let down : ¬ (w + s < v) = λ l. near (far-apart s v w .1 (inr l)) in
+    record { up = omega arith; down = omega arith }
 
 found-sample : (ns : List ℕ) (p : List ℕ → Bool) → T (someSample ns p) → (is : List ℕ) × Sample ns is × T (p is)
 unfolding someSample
@@ -79,3 +87,7 @@ module _ (s : ℕ) where
   -- Steps are too long exactly where there is a long step.
   pub too-long : (ns : List ℕ) (f : List ℕ → ℕ) → T (tooLong s ns f) ↔ LongStep s ns f
   too-long ns f = (found-long ns f, λ l. seen-long f (l .neighbours) (l .far))
+
+-- Samples that follow one another are neighbours.
+pub follows-neighbours : {ns is js : List ℕ} → Follows ns is js → Neighbours ns is js
+follows-neighbours (next l b) = first l b

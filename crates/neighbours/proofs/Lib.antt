@@ -1,0 +1,2 @@
+-- `Long`: the long-step test in words.
+pub mod Long

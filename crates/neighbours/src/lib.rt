@@ -1,0 +1,1 @@
+// Neighbouring samples and the long-step test: definitions in specs/, laws in proofs/.

@@ -1,1 +1,0 @@
-// The walk from cell to cell and the long-step test: definitions in specs/, laws in proofs/.
