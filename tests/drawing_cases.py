@@ -1,8 +1,9 @@
-"""Writes the stored cases of curves and patches and their expected answers, by the separate model of document 01.
+"""Writes the stored cases of curves and patches and their expected answers, by the separate model.
 
 `python3 tests/drawing_cases.py` writes crates/drawing_cases/stdin and stdout; with `--check` it writes nothing and exits
-with 1 if they are not what it would write; with `--count` it prints how many cases of each letter got each answer.  The
-forms of both are described in crates/drawing_cases/src.
+with 1 if they are not what it would write; with `--count` it prints how many cases of each letter got each answer, and
+how many of the curves listed from both ends have a sample exactly on a half.  The forms of both are described in
+crates/drawing_cases/src.
 """
 
 import random
@@ -10,11 +11,14 @@ import sys
 from collections import Counter
 from itertools import combinations, permutations, product
 
-from model import K1_TO_K11, Answer, curve, draw, drawing_refusal, list_curve, on_axis, patch
+from model import (
+    K1_TO_K11, Answer, curve, draw, drawing_refusal, from_other_end, list_curve, on_axis, patch, samples,
+)  # fmt: skip
 from stored import answer_record, case_record, malformed, store
 
 NUMBERS, ANSWERS = 21, 4  # in a case, in an answer
 BUFFER = 262144
+LONGEST_LIST = 1539
 PRIMES = 99999989, 99999959
 LARGEST = 4294967295
 MARK = 200
@@ -26,13 +30,33 @@ def check(side, record, lent):
     return Answer(refusal, 0 if refusal is None else None, lent)
 
 
-CALLS = {"D": draw, "L": list_curve, "C": check, "P": draw, "Q": check}
-ON_CURVES, ON_PATCHES = "DLC", "PQ"
+def list_from_both_ends(side, record, lent):
+    """A listing; once more from the other end it has the same refusal, or the same cells in reverse order."""
+    there, back = (list_curve(side, end, lent) for end in (record, from_other_end(record)))
+    assert there[:2] == back[:2]
+    if there.refusal is None:
+        forwards, backwards = ([a.lent[3 * k : 3 * k + 3] for k in range(a.count)] for a in (there, back))
+        assert forwards == backwards[::-1]
+    return there
+
+
+CALLS = {"D": draw, "L": list_curve, "E": list_from_both_ends, "C": check, "P": draw, "Q": check}
+ON_PATCHES = "PQ"
 
 
 def right_length(letter, side, n):
     """The bytes that a call asks for: a grid, a list or nothing."""
-    return {"D": side**3, "L": 3 * (n + 1), "C": 0, "P": side**3, "Q": 0}[letter]
+    listed = 3 * (n + 1)
+    return {"D": side**3, "L": listed, "E": min(listed, LONGEST_LIST), "C": 0, "P": side**3, "Q": 0}[letter]
+
+
+def halves(record):
+    """The samples of a curve that lie exactly on a half: the axis, and whether the values rise or fall there."""
+    for axis in range(3):
+        values = [exact[axis] for exact in samples(record).values()]
+        for (before, scale), (here, _), (after, _) in zip(values, values[1:], values[2:]):
+            if 2 * here % (2 * scale) == scale:
+                yield "xyz"[axis], "rising" if before < after else "falling" if before > after else "turning"
 
 
 def holding(lent):
@@ -48,6 +72,7 @@ class Cases:
         self.buffer = bytearray(BUFFER)
         self.records = []
         self.answered = Counter()
+        self.halves = Counter()  # the accepted curves listed from both ends, by where they have a sample on a half
 
     def add(self, letter, numbers, answer, kind, form="d"):
         """One case with its answer."""
@@ -77,6 +102,9 @@ class Cases:
         numbers = (side, n, record.mark, length, *(m or (0,)), *(x << 16 | y << 8 | z for x, y, z in points))
         accepted, refused = ("A", (answer.count, *holding(answer.lent))), ("R", (answer.refusal, *holding(answer.lent)))
         self.add(letter, numbers, accepted if answer.refusal is None else refused, answer.refusal or "accepted")
+        if letter == "E" and answer.refusal is None:
+            found = {*halves(record)}
+            self.halves.update(found | ({("any axis", "any way")} if found else set()))
         return answer.refusal
 
     def all_calls(self, side, record):
@@ -106,11 +134,11 @@ def limits(cases):
     """The ends of the ranges of side, step count and mark, and lengths of grid and list around the right ones."""
     for side in 0, 1, 2, 3, 63, 64, 65, LARGEST:
         cases.fill(min(side**3, BUFFER), 5)
-        for letter in ON_CURVES:
+        for letter in "DLC":
             record = curve([min(max(side - 1, 0), 255)] * 12, 1, MARK)
             cases.call(letter, side, record, min(right_length(letter, side, 1), BUFFER))
     for n, points in product((0, 1, 2, 511, 512, 513, LARGEST), ([0] * 12, on_axis(2, (0, 63, 0, 63)), [63, 0, 31] * 4)):
-        for letter in ON_CURVES:
+        for letter in "DLC":
             cases.call(letter, 64, curve(points, n, MARK), min(right_length(letter, 64, n), BUFFER))
     for side in 2, 3, 8, 40, 63, 64:
         cases.fill(BUFFER, 3, 7)
@@ -122,7 +150,7 @@ def limits(cases):
         for length in 0, 1, 3 * n, 3 * n + 2, 3 * n + 3, 3 * n + 4, 3 * n + 6:
             cases.call("L", 4, curve(on_axis(1, (0, 1, 2, 3)) if n > 1 else [2] * 12, n, 0), length)
             cases.show(max(0, length - 12))
-    for mark, letter in product((0, 1, 255), ON_CURVES):
+    for mark, letter in product((0, 1, 255), "DLC"):
         cases.fill(8, 255, 255)
         cases.call(letter, 2, curve([1] * 12, 1, mark))
 
@@ -137,7 +165,7 @@ FAULTS = {
     14: ({"z": 8}, {"z": 255}),
     15: ({"x": 2}, {"x": 7}),
 }
-ORDERS = {"D": (11, 21, 12, 13, 14, 15), "L": (11, 13, 22, 14, 15), "C": (11, 13, 14, 15)}
+ORDERS = {"D": (11, 21, 12, 13, 14, 15), "L": (11, 13, 22, 14, 15), "C": (11, 13, 14, 15), "E": (11, 13, 22, 14, 15)}
 PATCH_FAULTS = {**FAULTS, 13: ({"n": 257}, {"m": 0})}
 PATCH_ORDERS = {"P": ORDERS["D"], "Q": ORDERS["C"]}
 
@@ -280,14 +308,14 @@ def random_patch(dice, side):
 
 def random_record(dice, letter, side):
     """The points, counts and mark of a random curve or patch."""
-    points, *counts, mark = random_curve(dice, side) if letter in ON_CURVES else random_patch(dice, side)
+    points, *counts, mark = random_patch(dice, side) if letter in ON_PATCHES else random_curve(dice, side)
     return points, counts, mark
 
 
 def random_call(cases, dice, letter, side):
     """A call of a random object, in about every seventh case with a fault, which the call may be free to ignore."""
     points, counts, mark = random_record(dice, letter, side)
-    length = right_length(letter, side, counts[0]) + (dice.choice((0, 0, 1, 7)) if letter == "L" else 0)
+    length = right_length(letter, side, counts[0]) + (dice.choice((0, 0, 1, 7)) if letter in "LE" else 0)
     fault = dice.randrange(42)
     which = dice.randrange(len(counts))
     if fault == 0:
@@ -302,8 +330,8 @@ def random_call(cases, dice, letter, side):
         length = dice.choice((length - 1, length + 1, dice.randrange(length)))
     if fault == 5:
         counts[which] = max(1, counts[which] // 3)
-    make = curve if letter in ON_CURVES else patch
-    cases.call(letter, side, make(points, *counts, mark), min(length, BUFFER))
+    make = patch if letter in ON_PATCHES else curve
+    cases.call(letter, side, make(points, *counts, mark), min(length, LONGEST_LIST if letter == "E" else BUFFER))
 
 
 def random_calls(cases, dice):
@@ -318,10 +346,52 @@ def random_calls(cases, dice):
             random_call(cases, dice, letter, side)
 
 
+def with_a_half(dice, side):
+    """A curve of a few steps that fit, some sample of which lies on a half."""
+    while True:
+        spread = dice.randrange(1, min(side, 12))
+        low = [dice.randrange(side - spread) for _ in range(3)]
+        points = [low[k % 3] + dice.choice((0, spread, dice.randrange(spread + 1))) for k in range(12)]
+        gap = max(abs(points[k] - points[k + 3]) for k in range(9))
+        record = curve(points, 2 * dice.randrange(3 * gap // 2 + 1, 3 * gap + 4), MARK)
+        if any(halves(record)):
+            return record
+
+
+def both_ends(cases, dice):
+    """Curves listed from both ends: K1 to K11, the ends of the ranges, lines through halves, and random ones."""
+    cases.fill(LONGEST_LIST, 29, 5)
+    for axis, (_, points, n, _, refusal) in product(range(3), K1_TO_K11):
+        assert cases.call("E", 8, curve(on_axis(axis, points), n, MARK)) == refusal
+    for side in 0, 1, 2, 3, 63, 64, 65, LARGEST:
+        cases.call("E", side, curve([min(max(side - 1, 0), 255)] * 12, 1, MARK))
+    for n, points in product((0, 1, 2, 511, 512, 513, LARGEST), (on_axis(2, (0, 63, 0, 63)), [63, 0, 31] * 4)):
+        cases.call("E", 64, curve(points, n, MARK))
+    for n in 1, 6, 170, 512:
+        record = curve(on_axis(1, (0, 1, 2, 3)) if n > 1 else [2] * 12, n, 0)
+        for length in 0, 1, 3 * n, 3 * n + 2, 3 * n + 3, min(3 * n + 4, LONGEST_LIST):
+            cases.call("E", 4, record, length)
+    for side, low in (4, 0), (5, 1), (33, 14), (64, 0), (64, 60):
+        line = [low, low + 1, low + 2, low + 3]
+        for axes, n in product(permutations((line, line[::-1], [low] * 4)), (2, 4, 6, 18, 54, 512)):
+            cases.call("E", side, curve([c for point in zip(*axes) for c in point], n, MARK))
+    for by, axis, times in product((2, 5, 7, 13, 21), range(3), (3, 4, 6, 12)):
+        lines = [[0, by, 2 * by, 3 * by] if axis == a else [3 * by, 2 * by, by, 0] for a in range(3)]
+        cases.call("E", 3 * by + 1, curve([c for point in zip(*lines) for c in point], times * by, MARK))
+    for group in range(17 * 63):
+        side = 2 + group % 63
+        cases.call("E", side, with_a_half(dice, side))
+        random_call(cases, dice, "E", side)
+    listed = sum(count for (letter, _), count in cases.answered.items() if letter == "E")
+    assert listed >= 2400 and cases.halves["any axis", "any way"] >= 1000, (listed, cases.halves)
+    assert all(cases.halves[axis, way] >= 250 for axis, way in product("xyz", ("rising", "falling"))), cases.halves
+
+
 def no_cases(cases):
     """Records that are no case, of another form or lent more than there is; and bytes shown past the buffer's end."""
     first = cases.records[0][0]
     longer = [case_record(letter, (2, 1, MARK, BUFFER + 1), NUMBERS) for letter in "FDLP"]
+    longer.append(case_record("E", (2, 1, MARK, LONGEST_LIST + 1), NUMBERS))
     for case in *malformed(first), first[:-1] + " ", *longer:
         cases.records.append((case, answer_record("B", (), "d", ANSWERS)))
     cases.fill(8, 1, 1)
@@ -338,10 +408,13 @@ def main():
     refusals(cases, ORDERS, FAULTS, faulty_curve)
     refusals(cases, PATCH_ORDERS, PATCH_FAULTS, faulty_patch)
     random_calls(cases, random.Random(2))
+    both_ends(cases, random.Random(3))
     no_cases(cases)
     if "--count" in sys.argv[1:]:
         for (letter, kind), count in sorted(cases.answered.items(), key=str):
             print(letter, kind, count)
+        for (axis, way), count in sorted(cases.halves.items()):
+            print("E accepted, a sample on a half:", axis, way, count)
         return 0
     return store("drawing_cases", cases.records)
 

@@ -1,9 +1,9 @@
 """A separate model of the key box, from documents 01 and 02: every sample is summed directly from its Bernstein weights.
 
 Whole numbers and fractions are exact throughout; there are no differences and no remainders here.  Imported, the module
-gives the expected answers of test programs.  Run as `python3 tests/model.py`, it checks itself on document 01's samples
-and exits with 1 if a check fails.  Quoted words are document 01's, for demand 3 also the demand's own, and for hues and
-totals document 02's.
+gives the expected answers of test programs.  Run as `python3 tests/model.py`, it checks itself on the documents' samples
+and exits with 1 if a check fails.  Quoted words are document 01's, for demand 3 also the demand's own, and for the cell of
+a sample, hues and totals document 02's.
 """
 
 import random
@@ -14,7 +14,7 @@ from fractions import Fraction
 from functools import lru_cache
 from io import BytesIO
 from itertools import product
-from math import prod
+from math import ceil, prod
 from typing import NamedTuple, Optional, Tuple
 
 # The colour cube
@@ -42,6 +42,12 @@ def curve(coordinates, n, mark):
 def patch(coordinates, n, m, mark):
     """A patch: "counts n along t and m along u", "g(i, j) is its point number 4 × i + j"."""
     return Record(tuple(coordinates), (n, m), mark)
+
+
+def from_other_end(record):
+    """A curve redrawn "from its other end": its points in reverse order."""
+    points = [record.coordinates[k : k + 3] for k in range(0, 12, 3)]
+    return record._replace(coordinates=tuple(c for point in reversed(points) for c in point))
 
 
 # Exact samples: a value is a pair (numerator, scale)
@@ -84,41 +90,25 @@ def shifted(indices, parameter, by):
     return indices[:parameter] + (indices[parameter] + by,) + indices[parameter + 1 :]
 
 
-# The walk
+# Cells and steps
 
 
-def within_half(exact, coordinate):
-    """Whether "its exact value and the cell's coordinate differ by at most a half, a half itself included"."""
-    numerator, denominator = exact
-    return 2 * abs(numerator - denominator * coordinate) <= denominator
-
-
-def move(coordinate, exact):
-    """Within half a cell "the coordinate stays; otherwise it moves by one towards the value"."""
-    if within_half(exact, coordinate):
-        return coordinate
-    numerator, denominator = exact
-    return coordinate + 1 if numerator > denominator * coordinate else coordinate - 1
-
-
-def sample_before(indices):
-    """The sample walked from: along t, or at t = 0 along u, the one before; None for sample 0."""
-    moved = [parameter for parameter, i in enumerate(indices) if i > 0]
-    return shifted(indices, moved[0], -1) if moved else None
+def owner(exact):
+    """The c that owns a value, "above c - 0.5 up to and including c + 0.5": 2c - 1 < 2 × value ≤ 2c + 1."""
+    return ceil(exact - Fraction(1, 2))
 
 
 def cells(record):
-    """The cell of every sample, by its indices: "the cell of sample 0 is point 0", the others are walked to."""
-    walked = {}
-    for indices, exact in samples(record).items():
-        before = sample_before(indices)
-        walked[indices] = record.coordinates[:3] if before is None else tuple(map(move, walked[before], exact))
-    return walked
+    """The cell of every sample, by its indices: it "depends on its value alone" (document 02, A.3)."""
+    return {
+        indices: tuple(owner(Fraction(*coordinate)) for coordinate in exact)
+        for indices, exact in samples(record).items()
+    }
 
 
-def row(walked, *j):
-    """The cells along t, in turn: row(walked) of a curve, row(walked, j) of row j of a patch."""
-    return [cell for indices, cell in sorted(walked.items()) if indices[1:] == j]
+def row(found, *j):
+    """The cells along t, in turn: row(found) of a curve, row(found, j) of row j of a patch."""
+    return [cell for indices, cell in sorted(found.items()) if indices[1:] == j]
 
 
 def long_step(exact, following):
@@ -300,8 +290,7 @@ def swatch_ladder(swatch):
 
 def channel_coordinate(side, bits):
     """An accepted channel's "whole number c with 2c - 1 < 2 × v × (S-1) ≤ 2c + 1"."""
-    doubled = 2 * decode(bits) * (side - 1)
-    return next(c for c in range(side) if 2 * c - 1 < doubled <= 2 * c + 1)
+    return owner(decode(bits) * (side - 1))
 
 
 def swatch_cell(side, swatch):
@@ -495,19 +484,25 @@ def run(calls, grid):
     return grids
 
 
-def samples_within_half(record, walked):
+def within_half(exact, coordinate):
+    """Whether "its exact value and the cell's coordinate differ by at most a half, a half itself included"."""
+    numerator, denominator = exact
+    return 2 * abs(numerator - denominator * coordinate) <= denominator
+
+
+def samples_within_half(record, found):
     """Whether "every one of its exact samples has its cell within half a cell on every axis"."""
-    return all(all(map(within_half, exact, walked[indices])) for indices, exact in samples(record).items())
+    return all(all(map(within_half, exact, found[indices])) for indices, exact in samples(record).items())
 
 
-def cells_hold_mark(side, record, walked, grid):
+def cells_hold_mark(side, record, found, grid):
     """Whether "every one of its exact samples has its cell .. holding its mark"."""
-    return all(grid[place(side, walked[indices])] == record.mark for indices in samples(record))
+    return all(grid[place(side, found[indices])] == record.mark for indices in samples(record))
 
 
-def followers_adjacent(walked):
+def followers_adjacent(found):
     """Whether cells that "follow one another along a curve or a patch row differ by at most one on every axis"."""
-    pairs = ((cell, walked.get(shifted(indices, 0, 1), cell)) for indices, cell in walked.items())
+    pairs = ((cell, found.get(shifted(indices, 0, 1), cell)) for indices, cell in found.items())
     return all(abs(a - b) <= 1 for here, there in pairs for a, b in zip(here, there, strict=True))
 
 
@@ -535,15 +530,15 @@ def marks_explained(calls, start, end):
     return all(old == new or (at, new) in explained for at, (old, new) in enumerate(zip(start, end, strict=True)))
 
 
-def demand_3(calls, grids, walk=cells):
-    """All of demand 3 for these calls and grids (`run` gives the model's own), the cells being those of `walk`."""
+def demand_3(calls, grids, cells_of=cells):
+    """All of demand 3 for these calls and grids (`run` gives the model's own), by the cells of `cells_of`."""
     for (side, record), grid in zip(calls, grids[1:], strict=True):
         if drawing_refusal(side, record, len(grid)) is None:
-            walked = walk(record)
+            found = cells_of(record)
             if not (
-                samples_within_half(record, walked)
-                and cells_hold_mark(side, record, walked, grid)
-                and followers_adjacent(walked)
+                samples_within_half(record, found)
+                and cells_hold_mark(side, record, found, grid)
+                and followers_adjacent(found)
             ):
                 return False
     return marks_explained(calls, grids[0], grids[-1])
@@ -579,11 +574,11 @@ def on_axis(axis, controls):
     return [g if axis == a else 0 for g in controls for a in range(3)]
 
 
-K1_TO_K11 = [  # name, points, n, cells if listed by document 01, refusal
+K1_TO_K11 = [  # name, points, n, cells if the documents list them, refusal
     ("K1", (0, 1, 2, 3), 3, (0, 1, 2, 3), None),
     ("K2", (0, 1, 2, 3), 2, None, 15),
     ("K3", (0, 1, 2, 3), 6, (0, 0, 1, 1, 2, 2, 3), None),
-    ("K4", (3, 2, 1, 0), 6, (3, 3, 2, 2, 1, 1, 0), None),
+    ("K4", (3, 2, 1, 0), 6, (3, 2, 2, 1, 1, 0, 0), None),
     ("K5", (0, 0, 0, 1), 1, (0, 1), None),
     ("K6", (0, 0, 0, 2), 1, None, 15),
     ("K7", (0, 0, 0, 6), 17, None, None),
@@ -603,16 +598,14 @@ def as_patch(coordinates):
 
 def cells_with_row_remainder_dropped(record):
     """Figure 3's slip: a row's values count from its first cell instead of from its first value."""
-    exact = samples(record)
-    walked = {indices: cell for indices, cell in cells(record).items() if indices[0] == 0}
-    for i, j in exact:
-        if i > 0:
-            slipped = [
-                (numerator - first + denominator * c, denominator)
-                for (numerator, denominator), (first, _), c in zip(exact[i, j], exact[0, j], walked[0, j], strict=True)
-            ]
-            walked[i, j] = tuple(map(move, walked[i - 1, j], slipped))
-    return walked
+    exact, found = samples(record), cells(record)
+    return {
+        (i, j): tuple(
+            owner(Fraction(numerator - first, denominator) + c)
+            for (numerator, denominator), (first, _), c in zip(exact[i, j], exact[0, j], found[0, j], strict=True)
+        )
+        for i, j in exact
+    }
 
 
 def cells_with_halves_to_even(record):
@@ -686,11 +679,6 @@ def check_exact_samples(checks):
         indices = tuple(dice.randrange(n + 1) for n in counts)
         found = Fraction(*value(counts, indices, controls))
         checks.equal(group, f"{counts} {indices} {controls}", found, de_casteljau(counts, indices, controls))
-    # x = 3 - i/2 + j/2 at sample (i, j): on a half, the cell shows from which side the walk came.
-    falling_rising = patch(on_axis(0, [3 - i + j for i in range(4) for j in range(4)]), 6, 6, 1)
-    for j, expected in (0, [3, 3, 2, 2, 1, 1, 0]), (1, [3, 3, 3, 2, 2, 1, 1]), (2, [4, 4, 3, 3, 2, 2, 1]):
-        found = [x for x, _, _ in row(cells(falling_rising), j)]
-        checks.equal(group, f"the walk along u, then along t, row {j}", found, expected)
     k1_along_t = as_patch(on_axis(0, (0, 1, 2, 3)))
     k1_along_u = on_axis(1, [j for _ in range(4) for j in range(4)])
     for label, record, expected in (
@@ -703,6 +691,26 @@ def check_exact_samples(checks):
         ("the same with steps to spare", patch(on_axis(2, [0] * 15 + [2]), 9, 9, 1), None),
     ):
         checks.equal(group, label, draw(8, record, bytes(512)).refusal, expected)
+
+
+def check_cells(checks):
+    """One coordinate owns a value, on a half the lower one; a curve from its other end has the same cells."""
+    group = "cells"
+    for twelfths in range(97):
+        exact = Fraction(twelfths, 12)
+        owners = [c for c in range(10) if 2 * c - 1 < 2 * exact <= 2 * c + 1]
+        checks.equal(group, f"{exact}", [owner(exact)], owners)
+    # x = 3 - i/2 + j/2 at sample (i, j): falling along t, rising along u
+    falling_rising = patch(on_axis(0, [3 - i + j for i in range(4) for j in range(4)]), 6, 6, 1)
+    for j, expected in (0, [3, 2, 2, 1, 1, 0, 0]), (1, [3, 3, 2, 2, 1, 1, 0]), (2, [4, 3, 3, 2, 2, 1, 1]):
+        found = [x for x, _, _ in row(cells(falling_rising), j)]
+        checks.equal(group, f"halves along t and u, row {j}", found, expected)
+    dice = random.Random(6)
+    for _ in range(100):
+        record = curve([dice.randrange(8) for _ in range(12)], dice.randrange(1, 40), 1)
+        back = row(cells(from_other_end(record)))
+        checks.equal(group, f"from the other end {record}", back, row(cells(record))[::-1])
+        checks.equal(group, f"flipped twice {record}", from_other_end(from_other_end(record)), record)
 
 
 def check_refusals(checks):
@@ -1070,7 +1078,7 @@ def check_demand_3_can_fail(checks):
         group, "K12's dropped remainder", demand_3([k12], [full, full], cells_with_row_remainder_dropped), False
     )
     halves = (8, patch(on_axis(0, K12), 3, 6, 9))
-    checks.equal(group, "halves as walked", demand_3([halves], [full, full]), True)
+    checks.equal(group, "halves to the lower cell", demand_3([halves], [full, full]), True)
     checks.equal(group, "halves to the even cell", demand_3([halves], [full, full], cells_with_halves_to_even), False)
     checks.equal(group, "a cell left out", followers_adjacent({(0,): (4, 4, 4), (1,): (4, 4, 2)}), False)
     checks.equal(group, "cells side by side", followers_adjacent({(0,): (4, 4, 4), (1,): (5, 3, 5)}), True)
@@ -1132,6 +1140,7 @@ def self_check():
     for check in (
         check_k1_to_k12,
         check_exact_samples,
+        check_cells,
         check_refusals,
         check_swatches,
         check_half_way,

@@ -4,6 +4,7 @@
 //     S place stride                           shows 16 bytes of the buffer
 //     D side steps mark length 0 points        draws a curve, the lent bytes as its grid
 //     L side steps mark length 0 points        lists a curve, the lent bytes as its list
+//     E side steps mark length 0 points        lists a curve as L does, and once more from its other end
 //     C side steps mark 0 0 points             checks a curve
 //     P side n mark length m points            draws a patch, the lent bytes as its grid
 //     Q side n mark 0 m points                 checks a patch
@@ -11,10 +12,12 @@
 // There is one buffer of 262144 bytes, which keeps its bytes from case to case; lent are the first of them, as many as
 // the length says. Filled byte i is first + step × i, modulo 256. Shown byte i is at place + stride × i, and 0 past the
 // end. Each point is one number, 00xxyyzz in hexadecimal digits; they begin at number 5, and there is room for 16.
-// Numbers that a case does not use are 0. The answers are
+// Numbers that a case does not use are 0. From its other end a curve has its points in reverse order; its list is then
+// another one, as long as the lent bytes, which are at most 1539. The answers are
 //
 //     A samples marked first second            accepted; the samples of a check are 0
 //     R number marked first second             refused
+//     N 0 marked first second                  from its other end refused otherwise, or not the same cells in reverse
 //     F 0 marked first second                  filled
 //     S bytes bytes bytes bytes                shown (hexadecimal)
 //     B                                        no such case
@@ -25,6 +28,7 @@
 mod answer;
 mod bytes;
 mod calls;
+mod ends;
 
 ghost use mathlib.Core.Path.{_≡_};
 ghost use Prim.Native.Nat.{_*_, _≤_};
@@ -86,7 +90,7 @@ fn answer_case(case: &[u8], buffer: &mut [u8]) -> Answer
         return answer::none();
     }
     match case[0] {
-        b'F' | b'D' | b'L' | b'P' => answer_lent(case, buffer),
+        b'F' | b'D' | b'L' | b'E' | b'P' => answer_lent(case, buffer),
         b'S' => bytes::show(case, buffer),
         b'C' => checked(curve::check_curve(number(case, 0), curve_of(case))),
         b'Q' => checked(patch::check_patch(number(case, 0), patch_of(case))),
@@ -112,6 +116,7 @@ fn answer_lent(case: &[u8], buffer: &mut [u8]) -> Answer
             curve::list_curve(number(case, 0), curve_of(case), lent),
             lent,
         ),
+        b'E' => ends::list_both(case, lent),
         b'P' => called(
             patch::draw_patch(number(case, 0), patch_of(case), lent),
             lent,

@@ -50,6 +50,9 @@ list-curve-requires c κs = search needs
 called-requires-2 : tie.Need-called-requires-2
 called-requires-2 c κs = search needs
 
+list-both-requires : tie.Need-list-both-requires
+list-both-requires c κs = search needs
+
 number-requires-4 : tie.Need-number-requires-4
 number-requires-4 c κs = search needs
 
@@ -89,6 +92,12 @@ same-length-4 c = search needs
 returns-5 : tie.Need-returns-5
 returns-5 c = search needs
 
+same-length-5 : tie.Need-same-length-5
+same-length-5 c = search needs
+
+returns-6 : tie.Need-returns-6
+returns-6 c = search needs
+
 pub answer-lent-spec : {M : Type 1} → statement M
 answer-lent-spec =
     tie.close
@@ -108,6 +117,7 @@ answer-lent-spec =
     curve-of-requires-2
     list-curve-requires
     called-requires-2
+    list-both-requires
     number-requires-4
     patch-of-requires
     draw-patch-requires
@@ -120,4 +130,6 @@ answer-lent-spec =
     same-length-3
     returns-4
     same-length-4
-    returns-5)
+    returns-5
+    same-length-5
+    returns-6)

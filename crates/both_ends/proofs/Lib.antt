@@ -1,0 +1,2 @@
+-- `Turned`: four points in reverse order.
+pub mod Turned
