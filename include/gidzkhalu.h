@@ -97,7 +97,8 @@ enum {
 /* At each function, "Answer" is that of an accepted call, and "Refusals" are the numbers that it can answer minus, in the
    order in which they are tried. */
 
-/* Curves: points has x y z of points 0 to 3, 12 bytes. A cell (x, y, z) stands at byte x + side y + side side z. */
+/* Curves: points has x y z of points 0 to 3, 12 bytes. A cell (x, y, z) stands at byte x + side y + side side z. The cell
+   of a sample has on each axis the whole number c with c - 1/2 < value <= c + 1/2. */
 
 /* Whether a curve can be drawn. Answer: 0.
    Refusals: 51, 11, 13, 14, 15.

@@ -36,10 +36,10 @@ void count_order(struct counts *counts, const struct order *order);
 
 /* What a whole run must meet. */
 #define MET(X)                                                                                                         \
-    X(CURVE_HALF_BELOW, "curve samples on a half, the cell below")                                                     \
-    X(CURVE_HALF_ABOVE, "curve samples on a half, the cell above")                                                     \
-    X(PATCH_HALF_BELOW, "patch samples on a half, the cell below")                                                     \
-    X(PATCH_HALF_ABOVE, "patch samples on a half, the cell above")                                                     \
+    X(CURVE_HALF_RISING, "curve samples on a half, above the sample before")                                           \
+    X(CURVE_HALF_FALLING, "curve samples on a half, below the sample before")                                          \
+    X(PATCH_HALF_RISING, "patch samples on a half, above the sample before")                                           \
+    X(PATCH_HALF_FALLING, "patch samples on a half, below the sample before")                                          \
     X(CURVE_NEAR_HALF, "curve samples as near to a half as their scale allows")                                        \
     X(PATCH_NEAR_HALF, "patch samples as near to a half as their scale allows")                                        \
     X(CURVE_STEP_ONE, "accepted curves with a step of exactly one cell")                                               \
@@ -62,6 +62,7 @@ void count_order(struct counts *counts, const struct order *order);
     X(COORDINATE_SIDE, "14 with a coordinate equal to the side")                                                       \
     X(LIST_EXACT, "accepted lists of exactly 3 (n + 1) bytes")                                                         \
     X(LIST_SHORT, "22 for a list one byte short")                                                                      \
+    X(ENDS_HALF, "curves listed from both ends with a sample on a half")                                               \
     X(GRID_SHORT, "21 for a grid one byte short")                                                                      \
     X(GRID_LONG, "21 for a grid one byte long")                                                                        \
     X(CHANNEL_HALF, "accepted swatches with a channel on a half")                                                      \

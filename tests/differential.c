@@ -58,8 +58,8 @@ static struct samples samples;
 
 static void meet_accepted_object(const struct object_call *c) {
     wide longest = longest_step(&samples);
-    count_ties(&samples, &met[c->patch ? PATCH_HALF_BELOW : CURVE_HALF_BELOW],
-               &met[c->patch ? PATCH_HALF_ABOVE : CURVE_HALF_ABOVE],
+    count_ties(&samples, &met[c->patch ? PATCH_HALF_RISING : CURVE_HALF_RISING],
+               &met[c->patch ? PATCH_HALF_FALLING : CURVE_HALF_FALLING],
                &met[c->patch ? PATCH_NEAR_HALF : CURVE_NEAR_HALF]);
     meet(c->patch ? PATCH_STEP_ONE : CURVE_STEP_ONE, longest == samples.scale);
     meet(STEP_BELOW_ONE, longest < samples.scale && 50 * longest >= 49 * samples.scale);
@@ -140,6 +140,47 @@ static int large_curve(void) {
 
 static int large_patch(void) {
     return object_case(one_in(4) ? CHECK : DRAW, 1, 1, one_in(8) ? random_faults(ALL_FAULTS) : 0);
+}
+
+/* Lists a curve of random points, or the same with its points in reverse order; *answer is what the reference gives. */
+static int list_from(struct object_call *c, const uint8_t record[64], int other_end, int64_t *answer) {
+    uint8_t turned[64];
+    for (size_t k = 0; k < c->points_len; k++)
+        turned[k] = c->points_len == GIDZKHALU_CURVE_BYTES ? record[9 - k / 3 * 3 + k % 3] : record[k];
+    lend_bytes(&points, other_end ? turned : record, c->points_len);
+    lend(&grid, c->lent_len);
+    return compare_object(c, answer);
+}
+
+static int reversed(const uint8_t *list, const uint8_t *back, size_t cells) {
+    for (size_t i = 0; i < cells; i++)
+        if (memcmp(list + 3 * i, back + 3 * (cells - 1 - i), 3) != 0)
+            return 0;
+    return 1;
+}
+
+/* From its other end a curve has the same refusal, or the same cells in reverse order. */
+static int both_ends(void) {
+    static uint8_t list[GIDZKHALU_LIST_BYTES(GIDZKHALU_CURVE_STEPS_MOST)];
+    struct object_call c = {LIST, 0, random_side(), 0, 0, 0, NULL, 0, NULL, 0};
+    uint64_t halves = met[CURVE_HALF_RISING] + met[CURVE_HALF_FALLING];
+    uint8_t record[64];
+    int64_t there, back;
+    random_object(&c, record, one_in(100), random_faults(ALL_FAULTS));
+    if (!list_from(&c, record, 0, &there))
+        return 0;
+    meet(ENDS_HALF, met[CURVE_HALF_RISING] + met[CURVE_HALF_FALLING] > halves);
+    if (there >= 0)
+        memcpy(list, grid.got, 3 * (size_t)there);
+    if (!list_from(&c, record, 1, &back))
+        return 0;
+    if (there == back && (there < 0 || reversed(list, grid.got, (size_t)there)))
+        return 1;
+    print_failure(there, back);
+    printf("  from its other end the curve does not list the same cells in reverse:\n");
+    c.points = points.want;
+    print_object(&c);
+    return 0;
 }
 
 /* Swatches */
@@ -652,7 +693,7 @@ static const struct {
     const char *cells; /* empty: accepted; NULL: refused, 15 */
 } KNOWN[] = {
     {"K1", {0, 1, 2, 3}, 3, "0123"},    {"K2", {0, 1, 2, 3}, 2, NULL},       {"K3", {0, 1, 2, 3}, 6, "0011223"},
-    {"K4", {3, 2, 1, 0}, 6, "3322110"}, {"K5", {0, 0, 0, 1}, 1, "01"},       {"K6", {0, 0, 0, 2}, 1, NULL},
+    {"K4", {3, 2, 1, 0}, 6, "3221100"}, {"K5", {0, 0, 0, 1}, 1, "01"},       {"K6", {0, 0, 0, 2}, 1, NULL},
     {"K7", {0, 0, 0, 6}, 17, ""},       {"K8", {0, 0, 0, 6}, 16, NULL},      {"K9", {0, 3, 3, 0}, 9, "0122222210"},
     {"K10", {0, 3, 3, 0}, 7, NULL},     {"K10, n = 8", {0, 3, 3, 0}, 8, ""}, {"K11", {5, 5, 5, 5}, 1, "55"}};
 
@@ -800,6 +841,7 @@ static const struct kind {
             {"check curve", 2000000, check_curve, {CHECK_ORDER, NULL}},
             {"list curve", 2000000, list_curve, {LIST_ORDER, NULL}},
             {"draw curve", 2000000, draw_curve, {DRAW_ORDER, NULL}},
+            {"both ends", 500000, both_ends, {LIST_ORDER, NULL}},
             {"check patch", 1000000, check_patch, {CHECK_ORDER, NULL}},
             {"draw patch", 1000000, draw_patch, {DRAW_ORDER, NULL}},
             {"swatch to cell", 4000000, to_cell, {CELL_ORDER, NULL}},

@@ -94,40 +94,33 @@ wide longest_step(const struct samples *s) {
     return longest;
 }
 
-/* The walk */
+/* Cells */
 
-static int within_half(wide value, wide scale, int32_t coordinate) {
-    return 2 * distance(value, coordinate * scale) <= scale;
+/* A cell c owns the values above c - 1/2 up to and including c + 1/2: what is more than a half past the whole part goes to
+   the next one. */
+static int32_t owner(wide value, wide scale) {
+    wide whole = value / scale;
+    return (int32_t)(2 * (value - whole * scale) > scale ? whole + 1 : whole);
 }
 
-static int32_t moved(int32_t coordinate, wide value, wide scale) {
-    if (within_half(value, scale, coordinate))
-        return coordinate;
-    return value > coordinate * scale ? coordinate + 1 : coordinate - 1;
+static void take_cells(struct samples *s) {
+    for (int axis = 0; axis < 3; axis++)
+        for (size_t at = 0; at < s->along * s->rows; at++)
+            s->cell[axis][at] = owner(s->value[axis][at], s->scale);
 }
 
-static void walk(const struct object_call *c, struct samples *s) {
-    for (int axis = 0; axis < 3; axis++) {
-        const wide *v = s->value[axis];
-        int32_t *cell = s->cell[axis];
-        cell[0] = c->points[axis];
-        for (size_t j = 1; j < s->rows; j++)
-            cell[s->along * j] = moved(cell[s->along * (j - 1)], v[s->along * j], s->scale);
-        for (size_t j = 0; j < s->rows; j++)
-            for (size_t i = 1; i < s->along; i++) {
-                size_t at = s->along * j + i;
-                cell[at] = moved(cell[at - 1], v[at], s->scale);
-            }
-    }
+/* Sample 0 has none, and its value, a coordinate, lies on no half. */
+static size_t sample_before(const struct samples *s, size_t at) {
+    return at % s->along != 0 ? at - 1 : at - s->along;
 }
 
-void count_ties(const struct samples *s, uint64_t *above, uint64_t *below, uint64_t *beside) {
+void count_ties(const struct samples *s, uint64_t *rising, uint64_t *falling, uint64_t *beside) {
     for (int axis = 0; axis < 3; axis++)
         for (size_t at = 0; at < s->along * s->rows; at++) {
-            wide over = 2 * (s->value[axis][at] - s->cell[axis][at] * s->scale);
-            wide from_half = s->scale - distance(over, 0);
-            *above += over == s->scale;
-            *below += over == -s->scale;
+            const wide *v = s->value[axis];
+            wide over = 2 * (v[at] - s->cell[axis][at] * s->scale), from_half = s->scale - distance(over, 0);
+            *rising += over == s->scale && v[sample_before(s, at)] < v[at];
+            *falling += over == s->scale && v[sample_before(s, at)] > v[at];
             *beside += s->scale > 8 && (from_half == 1 || from_half == 2);
         }
 }
@@ -190,7 +183,7 @@ int64_t reference_object(const struct object_call *c, struct order *order, struc
     object_order(c, order, s);
     if (order_first(order) != 0)
         return -order_first(order);
-    walk(c, s);
+    take_cells(s);
     if (c->service == CHECK)
         return 0;
     write_cells(c, s);
@@ -198,6 +191,10 @@ int64_t reference_object(const struct object_call *c, struct order *order, struc
 }
 
 /* Demand 3 */
+
+static int within_half(wide value, wide scale, int32_t coordinate) {
+    return 2 * distance(value, coordinate * scale) <= scale;
+}
 
 static int sample_holds(const struct samples *s, size_t at, uint32_t side, uint8_t mark, const uint8_t *grid) {
     for (int axis = 0; axis < 3; axis++) {

@@ -35,7 +35,7 @@ struct object_call {
     size_t lent_len;
 };
 
-/* The exact values of an object, times scale, and the cells of the walk: row j's sample i is at (n + 1) j + i. */
+/* The exact values of an object, times scale, and its cells: row j's sample i is at (n + 1) j + i. */
 enum { SAMPLES = 257 * 257 };
 
 struct samples {
@@ -51,9 +51,10 @@ void exact_values(const struct object_call *call, struct samples *samples);
 /* The largest distance of two neighbours on an axis, times scale. */
 wide longest_step(const struct samples *samples);
 
-/* Adds the numbers of samples that lie half a cell above their cell on some axis, half a cell below, and so near to a
-   half that no value of their scale, above 8, lies between. */
-void count_ties(const struct samples *samples, uint64_t *above, uint64_t *below, uint64_t *beside);
+/* Adds the numbers of samples that lie on a half on some axis, above the sample before them or below it, and of those so
+   near to a half that no value of their scale, above 8, lies between. The sample before is that along t, and along u
+   where a row begins. */
+void count_ties(const struct samples *samples, uint64_t *rising, uint64_t *falling, uint64_t *beside);
 
 /* An accepted call leaves the object's values and cells in samples. */
 int64_t reference_object(const struct object_call *call, struct order *order, struct samples *samples);
