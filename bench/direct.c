@@ -19,13 +19,13 @@ static inline int64_t cubed(int64_t n)
     return n * n * n;
 }
 
-/* The walk's move: stays within half a cell, else goes one towards the value / scale. */
+/* The cell that owns value / scale, above cell - 1/2 up to cell + 1/2: that of the sample before or one beside it. */
 static inline int64_t move(int64_t cell, int64_t value, int64_t scale)
 {
     int64_t past = 2 * value - 2 * scale * cell;
     if (past > scale)
         return cell + 1;
-    return past < -scale ? cell - 1 : cell;
+    return past <= -scale ? cell - 1 : cell;
 }
 
 /* Curves. */

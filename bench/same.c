@@ -1,5 +1,5 @@
-/* (a) The library's algorithm in C: integer forward differences of twice the value, a remainder from -N to N for each
-   axis, the step test on differences before the first write, the same refusals in the same order. */
+/* (a) The library's algorithm in C: integer forward differences of twice the value, a remainder above -N and up to N for
+   each axis, the step test on differences before the first write, the same refusals in the same order. */
 #include <math.h>
 #include <stdbool.h>
 #include <stddef.h>
@@ -76,15 +76,15 @@ static APART bool some_value_long(struct cubic c, uint32_t n, int64_t scale)
     return false;
 }
 
-/* The next sample on one axis of a walk: the differences, then the decision. The cubic's value is the remainder, -N
-   to N; a move takes the place one stride on or back. */
+/* The next sample on one axis of a walk: the differences, then the decision. The cubic's value is the remainder, above
+   -N and up to N; a move takes the place one stride on or back. */
 static inline void step(struct cubic *c, int64_t scale, int64_t stride, int64_t *place)
 {
     next(c);
     if (c->value > scale) {
         *place += stride;
         c->value -= 2 * scale;
-    } else if (c->value < -scale) {
+    } else if (c->value <= -scale) {
         *place -= stride;
         c->value += 2 * scale;
     }

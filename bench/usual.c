@@ -14,11 +14,18 @@ static inline float blend(float t, float g0, float g1, float g2, float g3)
     return k * k * k * g0 + 3.0f * t * k * k * g1 + 3.0f * t * t * k * g2 + t * t * t * g3;
 }
 
+/* A half goes down. */
+static inline size_t nearest(float v)
+{
+    int32_t c = (int32_t)v;
+    return (size_t)(c + (v - (float)c > 0.5f));
+}
+
 /* Curves. */
 
 static inline size_t rounded(const uint8_t *points, float t)
 {
-    return (size_t)lroundf(blend(t, points[0], points[3], points[6], points[9]));
+    return nearest(blend(t, points[0], points[3], points[6], points[9]));
 }
 
 static void mark_samples(uint32_t side, const uint8_t *points, uint32_t n, uint8_t mark, uint8_t *grid)
@@ -55,7 +62,7 @@ static inline void row_controls(const uint8_t *points, float u, float g[4])
 
 static inline size_t rounded_in_row(const float g[4], float t)
 {
-    return (size_t)lroundf(blend(t, g[0], g[1], g[2], g[3]));
+    return nearest(blend(t, g[0], g[1], g[2], g[3]));
 }
 
 static void mark_rows(uint32_t side, const uint8_t *points, uint32_t n, uint32_t m, uint8_t mark, uint8_t *grid)
