@@ -36,7 +36,7 @@ known =
     curve-of 2 (0 ∷ 1 ∷ 2 ∷ 3 ∷ []) (refuses 15) ∷
     -- K3
     curve-of 6 (0 ∷ 1 ∷ 2 ∷ 3 ∷ []) (cells (0 ∷ 0 ∷ 1 ∷ 1 ∷ 2 ∷ 2 ∷ 3 ∷ [])) ∷
-    -- K4
+    -- K4, with the cells of document 02's A.3
     curve-of 6 (3 ∷ 2 ∷ 1 ∷ 0 ∷ []) (cells (3 ∷ 2 ∷ 2 ∷ 1 ∷ 1 ∷ 0 ∷ 0 ∷ [])) ∷
     -- K5
     curve-of 1 (0 ∷ 0 ∷ 0 ∷ 1 ∷ []) (cells (0 ∷ 1 ∷ [])) ∷
