@@ -128,7 +128,7 @@ int64_t gidzkhalu_check_patch(uint32_t side, const uint8_t *points, size_t point
 
 /* Writes the mark in the cell of each sample. Answer: (n + 1) (m + 1).
    Refusals: 51, 11, 21, 12, 13, 14, 15.
-   Stack: 1688 bytes. Instructions: 5511717. Environment: any. */
+   Stack: 1688 bytes. Instructions: 5512461. Environment: any. */
 int64_t gidzkhalu_draw_patch(uint32_t side, const uint8_t *points, size_t points_len, uint32_t n, uint32_t m,
                              uint8_t mark, uint8_t *grid, size_t grid_len);
 

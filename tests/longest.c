@@ -108,20 +108,36 @@ static void list_curves(void) { curves(1); }
 static void draw_curves(void) { curves(2); }
 
 /* Patches: as curves, 256 x 256 steps, every row the same along t. Along u there is one walk, through the rows' first
-   cells, so moves there count for little: the last patches have them, and stay along t. */
-static void patch(int draws, int along_u, struct axes axes) {
-    uint8_t points[GIDZKHALU_PATCH_BYTES];
+   cells, so moves there count for little: some patches have them, and stay along t. */
+static void make_patch(int draws, const uint8_t points[GIDZKHALU_PATCH_BYTES]) {
     uint32_t most = GIDZKHALU_PATCH_STEPS_MOST;
     int64_t answer;
+    if (draws)
+        answer = gidzkhalu_draw_patch(SIDE, points, GIDZKHALU_PATCH_BYTES, most, most, 255, grid, sizeof grid);
+    else
+        answer = gidzkhalu_check_patch(SIDE, points, GIDZKHALU_PATCH_BYTES, most, most);
+    printf("%" PRId64 ": side %d, %" PRIu32 " x %" PRIu32 " steps, ", answer, SIDE, most, most);
+}
+
+static void patch(int draws, int along_u, struct axes axes) {
+    uint8_t points[GIDZKHALU_PATCH_BYTES];
     for (int k = 0; k < 16; k++)
         put_point(points + 3 * k, axes, along_u ? k % 4 : k / 4, SIDE - 1);
-    if (draws)
-        answer = gidzkhalu_draw_patch(SIDE, points, sizeof points, most, most, 255, grid, sizeof grid);
-    else
-        answer = gidzkhalu_check_patch(SIDE, points, sizeof points, most, most);
-    printf("%" PRId64 ": side %d, %" PRIu32 " x %" PRIu32 " steps, along %s ", answer, SIDE, most, most,
-           along_u ? "u" : "t");
+    make_patch(draws, points);
+    printf("along %s ", along_u ? "u" : "t");
     print_axes(axes);
+}
+
+/* z of a patch most rows of which turn back once as they fall: 64 moves down and one up, where FALLS has 63 down. */
+static void turning_patch(struct axes axes) {
+    static const uint8_t z[16] = {63, 62, 63, 63, 0, 0, 0, 0, 63, 63, 63, 63, 0, 1, 0, 0};
+    uint8_t points[GIDZKHALU_PATCH_BYTES];
+    for (int k = 0; k < 16; k++) {
+        put_point(points + 3 * k, axes, k / 4, SIDE - 1);
+        points[3 * k + 2] = z[k];
+    }
+    make_patch(1, points);
+    printf("along t x %s, y %s, z falls and turns back once\n", PATTERN[axes.x], PATTERN[axes.y]);
 }
 
 /* A check has no cells, and its step test takes all samples of an accepted patch alike. */
@@ -142,6 +158,7 @@ static void draw_patches(void) {
     for (int pattern = 0; pattern < PATTERNS; pattern++) {
         struct axes axes = {(enum pattern)pattern, (enum pattern)pattern, (enum pattern)pattern};
         patch(1, 1, axes);
+        turning_patch(axes);
     }
 }
 
