@@ -1,9 +1,10 @@
--- Demand 3 speaks of something: an accepted curve exists, a refused one leaves the grid, and a later stroke over an
--- earlier one leaves both marks in view. Computed, in a cube of side 2.
+-- Demand 3 speaks of something: an accepted curve exists, a refused one leaves the grid, a later stroke over an earlier
+-- one leaves both marks in view, and a patch with a half in each of two rows has no slit. Computed, in cubes of side 2
+-- and 3.
 use mathlib.Core.Path.{_≡_, refl}
 use mathlib.Core.List.{List, [], _∷_}
 use Prim.Native.Nat.{ℕ}
-use lib.ListN.{length}
+use lib.ListN.{length, replicate}
 use Rattle.bezier.specs.Exact.{blend, scale, points, value}
 use Rattle.decide.specs.Some.{someBelow, someOf}
 use Rattle.decide.specs.Refusal.{firstThat}
@@ -13,7 +14,7 @@ use Rattle.cube.specs.Cube.{someAxis, sideOut, place}
 use Rattle.drawing.specs.Object.{offset, coordinate, exact, cellOf}
 use Rattle.drawing.specs.Refusals.{countOut, coordinateOut, stepsTooLong, order, drawVerdict}
 use Rattle.drawing.specs.Drawing.{row, rows, samples, marked, cells, drawn, inTurn}
-use Rattle.claims.specs.Demand3.{Call, draw-curve, run, Accepted}
+use Rattle.claims.specs.Demand3.{Call, draw-curve, draw-patch, run, Accepted}
 
 -- Along x from (0, 0, 0) to (1, 0, 0), and along y from (0, 0, 0) to (0, 1, 0), in one step each.
 abbrev along-x : ℕ → Call
@@ -44,3 +45,20 @@ unfolding blend scale points value someBelow someOf firstThat nearest farApart s
     someAxis sideOut place offset coordinate exact cellOf countOut coordinateOut stepsTooLong order drawVerdict row rows samples
     marked cells drawn inTurn run
 later-over-earlier = refl
+
+-- Two rows of three samples: x is 0, 1/2, 1 and 1, 3/2, 2, y is 0, 1, 2 in both.
+abbrev two-rows : Call
+two-rows =
+    draw-patch 3 2 1
+    (0 ∷ 0 ∷ 0 ∷ 0 ∷ 0 ∷ 0 ∷ 1 ∷ 0 ∷ 0 ∷ 1 ∷ 0 ∷ 0 ∷
+    0 ∷ 1 ∷ 0 ∷ 0 ∷ 1 ∷ 0 ∷ 1 ∷ 1 ∷ 0 ∷ 1 ∷ 1 ∷ 0 ∷
+    1 ∷ 1 ∷ 0 ∷ 1 ∷ 1 ∷ 0 ∷ 2 ∷ 1 ∷ 0 ∷ 2 ∷ 1 ∷ 0 ∷
+    1 ∷ 2 ∷ 0 ∷ 1 ∷ 2 ∷ 0 ∷ 2 ∷ 2 ∷ 0 ∷ 2 ∷ 2 ∷ 0 ∷ [])
+    9
+
+-- It is drawn, and at y = 0, 1 and 2 the cells of the two rows are next to each other.
+pub no-slit : run (two-rows ∷ []) (replicate 27 0) ≡ 9 ∷ 9 ∷ 0 ∷ 9 ∷ 9 ∷ 0 ∷ 0 ∷ 9 ∷ 9 ∷ replicate 18 0
+unfolding blend scale points value someBelow someOf firstThat nearest farApart someSample tooLong
+    someAxis sideOut place offset coordinate exact cellOf countOut coordinateOut stepsTooLong order drawVerdict row rows samples
+    marked cells drawn inTurn run
+no-slit = refl

@@ -8,7 +8,7 @@ use lib.ListN.{length, getD}
 use Rattle.bezier.specs.Exact.{Sample}
 use Rattle.decide.specs.Refusal.{accepted}
 use Rattle.rounding.specs.Nearest.{withinHalf, NextTo}
-use Rattle.neighbours.specs.Steps.{Follows}
+use Rattle.neighbours.specs.Steps.{Neighbours}
 use Rattle.cube.specs.Cube.{Axis, Cell, Inside, place, volume}
 use Rattle.drawing.specs.Object.{Object, curve, patch, scaleOf, exact, cellOf}
 use Rattle.drawing.specs.Refusals.{drawVerdict}
@@ -52,13 +52,13 @@ pub record MarkOfNearObject (gridLength : ℕ) (calls : List Call) (c : Cell) (b
   pub is-near : SampleNear (objectOf call) sample c
 
 -- Just after an object is drawn into a cube of side S: every one of its exact samples has its cell in the cube,
--- within half a cell on every axis and holding its mark, and two cells that follow one another differ by at most one
--- on every axis.
+-- within half a cell on every axis and holding its mark, and two cells that follow one another, those of neighbours
+-- along whichever parameter (document 02, A.4), differ by at most one on every axis.
 pub record JustDrawn (S : ℕ) (o : Object) (grid : List ℕ) : Type 0 where
   pub in-the-cube : {sample : List ℕ} → Sample (o .counts) sample → Inside S (cellOf o sample)
   pub within-half-a-cell : {sample : List ℕ} → Sample (o .counts) sample → SampleNear o sample (cellOf o sample)
   pub holding-its-mark : {sample : List ℕ} → Sample (o .counts) sample → getD grid (place S (cellOf o sample)) 0 ≡ o .mark
-  pub by-at-most-one : {sample next : List ℕ} → Follows (o .counts) sample next → (a : Axis) →
+  pub by-at-most-one : {sample next : List ℕ} → Neighbours (o .counts) sample next → (a : Axis) →
       NextTo (cellOf o sample a) (cellOf o next a)
 
 -- The two sentences of demand 3, for a list of calls into a cube of side S that holds the bytes `start`.

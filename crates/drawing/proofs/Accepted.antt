@@ -17,7 +17,7 @@ use Rattle.neighbours.specs.Steps.{tooLong, LongStep}
 use Rattle.neighbours.proofs.Long.{too-long}
 use Rattle.cube.specs.Cube.{Axis, volume}
 use Rattle.drawing.specs.Object.{Object, scaleOf, exact}
-use Rattle.drawing.specs.Refusals.{countOut, coordinateOut, stepsTooLong, order, drawVerdict, listVerdict}
+use Rattle.drawing.specs.Refusals.{countOut, coordinateOut, stepsTooLong, order, drawVerdict, listVerdict, checkVerdict}
 use Rattle.drawing.specs.Refusals.{sampleCount, Drawable}
 use Rattle.cube.proofs.Words.{side-in, some-axis}
 
@@ -126,3 +126,11 @@ module _ (S : ℕ) (o : Object) where
         λ w. order-accepted false false (ltb len room) .1
             (w .0, refl, refl, false-of (ltb len room) (λ t. omega (arith, less len room .0 t, w .1))),
       )
+
+  -- A check is accepted exactly where the object is drawable.
+  pub check-accepted : (checkVerdict S o ≡ accepted) ↔ Drawable S o
+  unfolding checkVerdict
+  check-accepted = (
+    λ e. order-accepted false false false .0 e .0,
+    λ d. order-accepted false false false .1 (d, refl, refl, refl),
+  )

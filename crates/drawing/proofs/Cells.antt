@@ -1,5 +1,5 @@
--- The cells of a drawable object: each is within half a cell of its sample on every axis, inside the cube, and next
--- to the one before it; a corner's cell is its control point.
+-- The cells of a drawable object: each is within half a cell of its sample on every axis and inside the cube; a corner's
+-- cell is its control point; the cells of neighbours are next to each other.
 use mathlib.Core.Path.{_≡_}
 use mathlib.Core.Logic.{⊎-elim}
 use mathlib.Core.List.{List}
@@ -15,8 +15,8 @@ use Rattle.decide.proofs.Truth.{decided, less, not-less}
 use Rattle.rounding.specs.Nearest.{Owns, withinHalf, AtMostOneApart, NextTo}
 use Rattle.rounding.proofs.Half.{within-half-below}
 use Rattle.rounding.proofs.Nearest.{nearest-owns, nearest-within-half, nearest-whole, nearest-next-to}
-use Rattle.neighbours.specs.Steps.{Neighbours, Follows}
-use Rattle.neighbours.proofs.Long.{not-far-apart, follows-neighbours}
+use Rattle.neighbours.specs.Steps.{Neighbours}
+use Rattle.neighbours.proofs.Long.{not-far-apart}
 use Rattle.cube.specs.Cube.{Axis, Inside}
 use Rattle.drawing.specs.Object.{Object, scaleOf, coordinate, offset, exact, cellOf}
 use Rattle.drawing.specs.Refusals.{Drawable}
@@ -71,7 +71,8 @@ module _ {S : ℕ} {o : Object} (d : Drawable S o) where
       not-far-apart (scaleOf o) (exact o a is) (exact o a js)
       (λ t. d .steps-short a (record { from = is; to = js; neighbours = n; far = t }))
 
-  -- The cells of samples that follow one another differ by at most one, on every axis.
-  pub cells-next-to : {is js : List ℕ} → Follows (o .counts) is js → (a : Axis) → NextTo (cellOf o is a) (cellOf o js a)
+  -- Document 02, A.4: the cells of any two neighbouring samples, along whichever parameter and everywhere, differ by at
+  -- most one on each axis.
+  pub cells-next-to : {is js : List ℕ} → Neighbours (o .counts) is js → (a : Axis) → NextTo (cellOf o is a) (cellOf o js a)
   unfolding cellOf
-  cells-next-to f a = nearest-next-to scale-of-positive (neighbours-near (follows-neighbours f) a)
+  cells-next-to n a = nearest-next-to scale-of-positive (neighbours-near n a)

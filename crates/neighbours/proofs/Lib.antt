@@ -1,2 +1,3 @@
--- `Long`: the long-step test in words.
+-- `Pairs`: which samples are neighbours. `Long`: the long-step test in words.
+pub mod Pairs
 pub mod Long

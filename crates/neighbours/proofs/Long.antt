@@ -11,7 +11,7 @@ use Rattle.decide.specs.Some.{someBelow}
 use Rattle.decide.proofs.Truth.{either, less}
 use Rattle.decide.proofs.Some.{some-below}
 use Rattle.rounding.specs.Nearest.{AtMostOneApart}
-use Rattle.neighbours.specs.Steps.{farApart, someSample, tooLong, Neighbours, first, later, LongStep, Follows, next}
+use Rattle.neighbours.specs.Steps.{farApart, someSample, tooLong, Neighbours, first, later, LongStep}
 
 -- Two values lie more than one cell apart: one exceeds the other by more than the scale.
 pub far-apart : (s v w : ℕ) → T (farApart s v w) ↔ ((v + s < w) ⊎ (w + s < v))
@@ -61,33 +61,34 @@ module _ (s : ℕ) where
   found-long [] f t = absurd t
   found-long (n ∷ ns) f t =
       ⊎-elim
-      (λ a. let w = some-below (firstFar ns f) n .0 a in
+      (λ a. let w = some-below (firstFar ns f) _ .0 a in
       let u = some-sample ns (λ is. farApart s (f (w .0 ∷ is)) (f (suc (w .0) ∷ is))) .0 (w .2) in
-      record { from = w .0 ∷ u .0; to = suc (w .0) ∷ u .0; neighbours = first (w .1) (u .1); far = u .2 })
-      (λ b. let w = some-below (laterFar ns f) (suc n) .0 b in
+      record {
+        from = w .0 ∷ u .0;
+        to = suc (w .0) ∷ u .0;
+        neighbours = first {n = n} {i = w .0} (omega (arith, w .1)) (u .1);
+        far = u .2;
+      })
+      (λ b. let w = some-below (laterFar ns f) _ .0 b in
       let l = found-long ns (λ is. f (w .0 ∷ is)) (w .2) in
       record {
         from = w .0 ∷ l .from;
         to = w .0 ∷ l .to;
-        neighbours = later (le-of-suc-le-suc (w .1)) (l .neighbours);
+        neighbours = later {n = n} {i = w .0} (omega (arith, w .1)) (l .neighbours);
         far = l .far;
       })
-      (either (someBelow n (firstFar ns f)) (someBelow (suc n) (laterFar ns f)) .0 t)
+      (either (someBelow _ (firstFar ns f)) _ .0 t)
 
   seen-long : {ns is js : List ℕ} (f : List ℕ → ℕ) → Neighbours ns is js → T (farApart s (f is) (f js)) → T (tooLong s ns f)
   unfolding tooLong firstFar laterFar
   seen-long f (first {n} {i} {ns} {is} h b) t =
-      either (someBelow n (firstFar ns f)) (someBelow (suc n) (laterFar ns f)) .1
-      (inl (some-below (firstFar ns f) n .1
-      (i, h, some-sample ns (λ is. farApart s (f (i ∷ is)) (f (suc i ∷ is))) .1 (is, b, t))))
+      either (someBelow _ (firstFar ns f)) _ .1
+      (inl (some-below (firstFar ns f) _ .1
+      (i, omega arith, some-sample ns (λ is. farApart s (f (i ∷ is)) (f (suc i ∷ is))) .1 (is, b, t))))
   seen-long f (later {n} {i} {ns} h b) t =
-      either (someBelow n (firstFar ns f)) (someBelow (suc n) (laterFar ns f)) .1
-      (inr (some-below (laterFar ns f) (suc n) .1 (i, omega arith, seen-long (λ is. f (i ∷ is)) b t)))
+      either (someBelow _ (firstFar ns f)) _ .1
+      (inr (some-below (laterFar ns f) _ .1 (i, omega arith, seen-long (λ is. f (i ∷ is)) b t)))
 
   -- Steps are too long exactly where there is a long step.
   pub too-long : (ns : List ℕ) (f : List ℕ → ℕ) → T (tooLong s ns f) ↔ LongStep s ns f
   too-long ns f = (found-long ns f, λ l. seen-long f (l .neighbours) (l .far))
-
--- Samples that follow one another are neighbours.
-pub follows-neighbours : {ns is js : List ℕ} → Follows ns is js → Neighbours ns is js
-follows-neighbours (next l b) = first l b

@@ -24,7 +24,8 @@ tooLong s (n ∷ ns) f =
     someBelow n (λ i. someSample ns (λ is. farApart s (f (i ∷ is)) (f (suc i ∷ is)))) ||
     someBelow (suc n) (λ i. tooLong s ns (λ is. f (i ∷ is)))
 
--- Neighbouring samples: one index differs, by one.
+-- Neighbouring samples: one index differs, by one. Of a curve samples i and i + 1, of a patch neighbours along t and
+-- along u; with document 02's A.4 their cells are those that follow one another in demand 3.
 pub data Neighbours : List ℕ → List ℕ → List ℕ → Type 0 where
   first : {n i : ℕ} {ns is : List ℕ} → i < n → Sample ns is → Neighbours (n ∷ ns) (i ∷ is) (suc i ∷ is)
   later : {n i : ℕ} {ns is js : List ℕ} → i ≤ n → Neighbours ns is js → Neighbours (n ∷ ns) (i ∷ is) (i ∷ js)
@@ -36,8 +37,3 @@ pub record LongStep (s : ℕ) (counts : List ℕ) (f : List ℕ → ℕ) : Type 
   pub to : List ℕ
   pub neighbours : Neighbours counts from to
   pub far : T (farApart s (f from) (f to))
-
--- Samples that follow one another along the first parameter: i and i + 1 of a curve, neighbours along t in any row of
--- a patch.
-pub data Follows : List ℕ → List ℕ → List ℕ → Type 0 where
-  next : {n i : ℕ} {ns is : List ℕ} → i < n → Sample ns is → Follows (n ∷ ns) (i ∷ is) (suc i ∷ is)
