@@ -44,6 +44,9 @@ void count_order(struct counts *counts, const struct order *order);
     X(PATCH_NEAR_HALF, "patch samples as near to a half as their scale allows")                                        \
     X(CURVE_STEP_ONE, "accepted curves with a step of exactly one cell")                                               \
     X(PATCH_STEP_ONE, "accepted patches with a step of exactly one cell")                                              \
+    X(NEIGHBOURS_T, "neighbours along t of accepted patches, their cells compared")                                    \
+    X(NEIGHBOURS_U, "neighbours along u of accepted patches, their cells compared")                                    \
+    X(NEIGHBOURS_HALVES, "of these neighbours, those exactly one cell apart and on halves")                            \
     X(STEP_BELOW_ONE, "accepted objects with a longest step from 0.98 to below 1")                                     \
     X(STEP_ABOVE_ONE, "15 for a longest step above 1 and below 1.02")                                                  \
     X(SIDE_1, "objects of side 1")                                                                                     \

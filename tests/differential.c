@@ -56,6 +56,22 @@ static int any_coordinate(const struct object_call *c, uint32_t value) {
 /* The values of the last object that passed all numbers before 15, and its cells if it was accepted. */
 static struct samples samples;
 
+/* The neighbours of accepted patches whose cells differ by more than one on some axis. */
+static uint64_t patch_neighbours_apart;
+
+/* Compares the cells of all neighbours of an accepted object; answers how many differ by more than one on some axis. */
+static uint64_t cells_apart(const struct object_call *c) {
+    struct neighbours neighbours = {0};
+    count_neighbours(&samples, &neighbours);
+    if (c->patch) {
+        met[NEIGHBOURS_T] += neighbours.along_t;
+        met[NEIGHBOURS_U] += neighbours.along_u;
+        met[NEIGHBOURS_HALVES] += neighbours.on_halves;
+        patch_neighbours_apart += neighbours.apart;
+    }
+    return neighbours.apart;
+}
+
 static void meet_accepted_object(const struct object_call *c) {
     wide longest = longest_step(&samples);
     count_ties(&samples, &met[c->patch ? PATCH_HALF_RISING : CURVE_HALF_RISING],
@@ -91,10 +107,12 @@ static void meet_refused_object(const struct object_call *c, int64_t answer) {
 /* Compares one call on the buffers points and grid; *want is the answer that the reference gives. */
 static int compare_object(struct object_call *c, int64_t *want) {
     struct order order = {0};
+    uint64_t apart;
     int64_t got;
     c->points = points.want;
     c->lent = grid.want;
     *want = reference_object(c, &order, &samples);
+    apart = *want >= 0 ? cells_apart(c) : 0;
     c->points = passed(&points, NULL_POINTS);
     if (c->service != CHECK)
         c->lent = passed(&grid, c->service == LIST ? NULL_LIST : NULL_GRID);
@@ -104,9 +122,11 @@ static int compare_object(struct object_call *c, int64_t *want) {
         meet_accepted_object(c);
     else
         meet_refused_object(c, *want);
-    if (*want == got && same(&points) && same(&grid))
+    if (apart == 0 && *want == got && same(&points) && same(&grid))
         return 1;
     print_failure(*want, got);
+    if (apart > 0)
+        printf("  neighbours whose cells are more than one apart: %" PRIu64 "\n", apart);
     c->points = points.want;
     print_object(c);
     print_difference(&points);
@@ -739,6 +759,23 @@ static int known_patch(void) {
     return 1;
 }
 
+/* Two rows with the x 0 1/2 1 and 1 3/2 2, and the y 0 1 2 of both: what the grid holds at z = 0, y by y. */
+static int known_halves(void) {
+    static const uint8_t x[4] = {0, 0, 1, 1}, y[4] = {0, 1, 1, 2}, unmarked[27] = {0};
+    static const uint8_t drawn[27] = {9, 9, 0, 9, 9, 0, 0, 9, 9};
+    struct object_call c = {DRAW, 1, 3, 2, 1, 9, NULL, 48, NULL, 27};
+    uint8_t record[48] = {0};
+    int64_t answer;
+    for (int k = 0; k < 16; k++) {
+        record[3 * k] = (uint8_t)(x[k / 4] + x[k % 4]);
+        record[3 * k + 1] = y[k / 4];
+    }
+    lend_bytes(&points, record, 48);
+    lend_bytes(&grid, unmarked, 27);
+    return (compare_object(&c, &answer) && answer == 6 && memcmp(grid.got, drawn, 27) == 0) ||
+           known_failed("of a patch with halves in both rows");
+}
+
 static int known_swatch(uint32_t side, const struct swatch *s, const uint8_t cell[3]) {
     struct order order = {0};
     uint8_t want[3] = {99, 99, 99}, got[3] = {99, 99, 99};
@@ -811,7 +848,7 @@ static const char TOTALS[] = "         7         4         6         0         0
 static const char NO_LINE[] = "REFUSED   41    1\n";
 
 static int document_samples(void) {
-    int good = known_patch() & known_print(SHEET, 0, LISTING) & known_print("", 0, NO_LINE);
+    int good = known_patch() & known_halves() & known_print(SHEET, 0, LISTING) & known_print("", 0, NO_LINE);
     good &= known_print(SHEET, 1, TOTALS) & known_print("", 1, NO_LINE);
     good &= known_grey(2, 0x3F000000, 0) & known_grey(3, 0x3E800000, 0) & known_grey(3, 0x3E800001, 1) & known_hues();
     for (uint32_t side = 2; side <= 64; side++)
@@ -943,6 +980,8 @@ static int print_met(void) {
     printf("\n\nmet:\n");
     for (int k = 0; k < METS; k++)
         printf("%9" PRIu64 " %s\n", met[k], MET_WORDS[k]);
+    printf("\naccepted patches: %" PRIu64 " neighbours compared, %" PRIu64 " with cells more than one apart\n",
+           met[NEIGHBOURS_T] + met[NEIGHBOURS_U], patch_neighbours_apart);
     for (int k = 0; k < METS; k++)
         good &= met[k] > 0;
     for (int kind = 0; kind < KINDS; kind++)

@@ -1,9 +1,9 @@
 """Writes the stored cases of curves and patches and their expected answers, by the separate model.
 
 `python3 tests/drawing_cases.py` writes crates/drawing_cases/stdin and stdout; with `--check` it writes nothing and exits
-with 1 if they are not what it would write; with `--count` it prints how many cases of each letter got each answer, and
-how many of the curves listed from both ends have a sample exactly on a half.  The forms of both are described in
-crates/drawing_cases/src.
+with 1 if they are not what it would write; with `--count` it prints how many cases of each letter got each answer, how
+many of the curves listed from both ends have a sample exactly on a half, and how many neighbours of the accepted patches
+have had their cells compared.  The forms of both are described in crates/drawing_cases/src.
 """
 
 import random
@@ -12,7 +12,9 @@ from collections import Counter
 from itertools import combinations, permutations, product
 
 from model import (
-    K1_TO_K11, Answer, curve, draw, drawing_refusal, from_other_end, list_curve, on_axis, patch, samples,
+    CHESSBOARD, HALVES_IN_BOTH_ROWS, K1_TO_K11, Answer, cells, cells_with_halves_to_even, cells_with_halves_up, curve,
+    distances_line, draw, drawing_refusal, from_other_end, grid_of_points, list_curve, neighbour_distances, on_axis, patch,
+    place, samples,
 )  # fmt: skip
 from stored import answer_record, case_record, malformed, store
 
@@ -73,6 +75,7 @@ class Cases:
         self.records = []
         self.answered = Counter()
         self.halves = Counter()  # the accepted curves listed from both ends, by where they have a sample on a half
+        self.distances = Counter()  # of the cells of neighbours in accepted patches
 
     def add(self, letter, numbers, answer, kind, form="d"):
         """One case with its answer."""
@@ -105,6 +108,8 @@ class Cases:
         if letter == "E" and answer.refusal is None:
             found = {*halves(record)}
             self.halves.update(found | ({("any axis", "any way")} if found else set()))
+        if letter in ON_PATCHES and answer.refusal is None:
+            self.distances.update(neighbour_distances(record, cells(record)))
         return answer.refusal
 
     def all_calls(self, side, record):
@@ -230,11 +235,6 @@ def random_curve(dice, side):
     return points, n, dice.randrange(1, 256)
 
 
-def grid_of_points(coordinate):
-    """Sixteen points, where coordinate(i, j) gives x y z of g(i, j)."""
-    return [c for i in range(4) for j in range(4) for c in coordinate(i, j)]
-
-
 def patch_samples(cases):
     """K12's patch, also with each row in a line of its own; and every row along t K1's, on each axis."""
     for z in (0, 0, 0, 0), (0, 0, 2, 2):
@@ -250,6 +250,29 @@ def patch_samples(cases):
         assert cases.call("P", 4, k1) == refusal
         cases.show(0, 4**axis)
         cases.call("Q", 4, k1)
+
+
+def patch_neighbours(cases):
+    """A half in each of two rows, with the axes and then t and u exchanged, and a chessboard; the whole grid is shown."""
+    x_of, y_of = HALVES_IN_BOTH_ROWS[0::3], HALVES_IN_BOTH_ROWS[1::3]
+    zero = [0] * 16
+    for axes, exchanged in product(permutations((x_of, y_of, zero)), (False, True)):
+        points = grid_of_points(lambda i, j: [axis[4 * j + i if exchanged else 4 * i + j] for axis in axes])
+        record = patch(points, *((1, 2) if exchanged else (2, 1)), MARK)
+        right, up, even = (
+            {place(3, cell) for cell in rule(record).values()}
+            for rule in (cells, cells_with_halves_up, cells_with_halves_to_even)
+        )
+        assert right not in (up, even)
+        cases.fill(27)
+        assert cases.call("P", 3, record) is None
+        cases.show(0)
+        cases.show(16)
+        cases.call("Q", 3, record)
+    cases.fill(343)
+    assert cases.call("P", 7, patch(CHESSBOARD, 3, 3, MARK)) is None
+    for at in range(0, 49, 16):
+        cases.show(at)
 
 
 def patch_limits(cases):
@@ -403,18 +426,20 @@ def no_cases(cases):
 def main():
     """Writes or checks both files, or prints the counts; the exit status."""
     cases = Cases()
-    for part in document_samples, limits, ties, ends, patch_samples, patch_limits, large_patches:
+    for part in document_samples, limits, ties, ends, patch_samples, patch_neighbours, patch_limits, large_patches:
         part(cases)
     refusals(cases, ORDERS, FAULTS, faulty_curve)
     refusals(cases, PATCH_ORDERS, PATCH_FAULTS, faulty_patch)
     random_calls(cases, random.Random(2))
     both_ends(cases, random.Random(3))
     no_cases(cases)
+    assert all(distance <= 1 for _, distance in cases.distances), cases.distances
     if "--count" in sys.argv[1:]:
         for (letter, kind), count in sorted(cases.answered.items(), key=str):
             print(letter, kind, count)
         for (axis, way), count in sorted(cases.halves.items()):
             print("E accepted, a sample on a half:", axis, way, count)
+        print(distances_line(cases.distances))
         return 0
     return store("drawing_cases", cases.records)
 

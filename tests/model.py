@@ -2,19 +2,20 @@
 
 Whole numbers and fractions are exact throughout; there are no differences and no remainders here.  Imported, the module
 gives the expected answers of test programs.  Run as `python3 tests/model.py`, it checks itself on the documents' samples
-and exits with 1 if a check fails.  Quoted words are document 01's, for demand 3 also the demand's own, and for the cell of
-a sample, hues and totals document 02's.
+and exits with 1 if a check fails.  Quoted words are document 01's, for demand 3 also the demand's own, and for cells of
+samples, neighbours, hues and totals document 02's.
 """
 
 import random
 import re
 import struct
 import sys
+from collections import Counter
 from fractions import Fraction
 from functools import lru_cache
 from io import BytesIO
 from itertools import product
-from math import ceil, prod
+from math import ceil, floor, prod
 from typing import NamedTuple, Optional, Tuple
 
 # The colour cube
@@ -85,9 +86,12 @@ def samples(record):
     }
 
 
-def shifted(indices, parameter, by):
-    """The indices of the sample that lies `by` samples further along one parameter."""
-    return indices[:parameter] + (indices[parameter] + by,) + indices[parameter + 1 :]
+def neighbours(record):
+    """Every two "neighbouring samples, along t or along u and in every row": the parameter, and the indices of both."""
+    for parameter, n in enumerate(record.counts):
+        for indices in samples(record):
+            if indices[parameter] < n:
+                yield parameter, indices, indices[:parameter] + (indices[parameter] + 1,) + indices[parameter + 1 :]
 
 
 # Cells and steps
@@ -119,13 +123,7 @@ def long_step(exact, following):
 def steps_too_long(record):
     """Whether "some two neighbouring samples lie more than one cell apart on an axis", along t or u, anywhere."""
     exact = samples(record)
-    neighbours = (
-        (exact[indices], exact[shifted(indices, parameter, 1)])
-        for indices in exact
-        for parameter, n in enumerate(record.counts)
-        if indices[parameter] < n
-    )
-    return any(any(map(long_step, here, there)) for here, there in neighbours)
+    return any(any(map(long_step, exact[here], exact[there])) for _, here, there in neighbours(record))
 
 
 # Drawing and listing
@@ -500,10 +498,24 @@ def cells_hold_mark(side, record, found, grid):
     return all(grid[place(side, found[indices])] == record.mark for indices in samples(record))
 
 
-def followers_adjacent(found):
-    """Whether cells that "follow one another along a curve or a patch row differ by at most one on every axis"."""
-    pairs = ((cell, found.get(shifted(indices, 0, 1), cell)) for indices, cell in found.items())
-    return all(abs(a - b) <= 1 for here, there in pairs for a, b in zip(here, there, strict=True))
+def neighbour_distances(record, found):
+    """How many neighbours along each parameter have cells that differ by so much, on the axis of most difference."""
+    return Counter(
+        ("tuv"[parameter], max(abs(a - b) for a, b in zip(found[here], found[there], strict=True)))
+        for parameter, here, there in neighbours(record)
+    )
+
+
+def neighbours_adjacent(record, found):
+    """Whether cells that "follow one another", neighbours along u "too", "differ by at most one on every axis"."""
+    return all(distance <= 1 for _, distance in neighbour_distances(record, found))
+
+
+def distances_line(distances):
+    """In print: how many neighbours were compared along each parameter, and how many lie more than one apart."""
+    along = {parameter: sum(n for (p, _), n in distances.items() if p == parameter) for parameter in "tu"}
+    apart = sum(n for (_, distance), n in distances.items() if distance > 1)
+    return f"neighbours in accepted patches: {along['t']} along t, {along['u']} along u, {apart} more than one apart"
 
 
 def near_coordinates(exact):
@@ -538,7 +550,7 @@ def demand_3(calls, grids, cells_of=cells):
             if not (
                 samples_within_half(record, found)
                 and cells_hold_mark(side, record, found, grid)
-                and followers_adjacent(found)
+                and neighbours_adjacent(record, found)
             ):
                 return False
     return marks_explained(calls, grids[0], grids[-1])
@@ -553,6 +565,7 @@ class Checks:
     def __init__(self):
         self.groups = {}
         self.failed = 0
+        self.distances = Counter()  # of the cells of neighbours in accepted patches
 
     def equal(self, group, label, found, expected):
         """One check: found and expected agree."""
@@ -561,10 +574,20 @@ class Checks:
             self.failed += 1
             print(f"FAILED {group}: {label}: found {found!r}, expected {expected!r}")
 
+    def draw(self, group, side, record, grid):
+        """A drawing; in an accepted patch the cells of all neighbours are compared: none are more than one apart."""
+        answer = draw(side, record, grid)
+        if answer.refusal is None and len(record.counts) == 2:
+            found = neighbour_distances(record, cells(record))
+            self.distances.update(found)
+            self.equal(group, f"neighbours of {record}", max(distance for _, distance in found) <= 1, True)
+        return answer
+
     def close(self):
-        """Prints a line for each group and the closing count; the exit status."""
+        """Prints a line for each group, the neighbours compared and the closing count; the exit status."""
         for group, count in self.groups.items():
             print(f"{group}: {count} checks")
+        print(distances_line(self.distances))
         print(f"{sum(self.groups.values())} checks, {self.failed} failed")
         return 1 if self.failed else 0
 
@@ -608,12 +631,33 @@ def cells_with_row_remainder_dropped(record):
     }
 
 
-def cells_with_halves_to_even(record):
-    """Cells within half a cell of their samples that may skip one: 1/2 goes to 0 and 3/2 to 2."""
+def cells_with_halves(record, rounded):
+    """Cells by another rule for a half."""
     return {
-        indices: tuple(round(Fraction(*coordinate)) for coordinate in exact)
+        indices: tuple(rounded(Fraction(*coordinate)) for coordinate in exact)
         for indices, exact in samples(record).items()
     }
+
+
+def cells_with_halves_to_even(record):
+    """Cells within half a cell of their samples that may skip one: 1/2 goes to 0 and 3/2 to 2."""
+    return cells_with_halves(record, round)
+
+
+def cells_with_halves_up(record):
+    """Cells within half a cell of their samples, and none skipped: 1/2 goes to 1 and 3/2 to 2."""
+    return cells_with_halves(record, lambda exact: floor(exact + Fraction(1, 2)))
+
+
+def grid_of_points(coordinate):
+    """Sixteen points, where coordinate(i, j) gives x y z of g(i, j)."""
+    return [c for i in range(4) for j in range(4) for c in coordinate(i, j)]
+
+
+# Two rows of three samples: x is 0, 1/2, 1 in row 0 and 1, 3/2, 2 in row 1, and y is 0, 1, 2 in both.
+HALVES_IN_BOTH_ROWS = grid_of_points(lambda i, j: ((0, 0, 1, 1)[i] + (0, 0, 1, 1)[j], (0, 1, 1, 2)[i], 0))
+# With n = m = 3, x is i + j and y is 3 + i - j at sample (i, j): the cells of neighbours touch at an edge alone.
+CHESSBOARD = grid_of_points(lambda i, j: (i + j, 3 + i - j, 0))
 
 
 def check_k1_to_k12(checks):
@@ -625,7 +669,7 @@ def check_k1_to_k12(checks):
             label = f"{name}, axis {axis}"
             record = curve(on_axis(axis, controls), n, 9)
             listed = list_curve(8, record, held)
-            drawn = draw(8, record, bytes(512))
+            drawn = checks.draw(group, 8, record, bytes(512))
             checks.equal(group, f"{label}, listing", listed[:2], (refusal, None if refusal else n + 1))
             checks.equal(group, f"{label}, drawing", drawn[:2], (refusal, None if refusal else n + 1))
             if refusal is not None:
@@ -642,7 +686,7 @@ def check_k1_to_k12(checks):
         slipped = [cell[axis] for cell in row(cells_with_row_remainder_dropped(record), 2)]
         checks.equal(group, f"K12, axis {axis}, row 2", along_axis, [1, 2, 3, 4, 4])
         checks.equal(group, f"K12, axis {axis}, row 2 with the remainder dropped", slipped, [1, 2, 2, 3, 4])
-        checks.equal(group, f"K12, axis {axis}, drawing", draw(8, record, bytes(512))[:2], (None, 25))
+        checks.equal(group, f"K12, axis {axis}, drawing", checks.draw(group, 8, record, bytes(512))[:2], (None, 25))
     for name, n, expected in ("K7", 17, (4902, 4913)), ("K8", 16, (4326, 4096)):
         last, before = (value((n,), (i,), (0, 0, 0, 6)) for i in (n, n - 1))
         checks.equal(group, f"{name}, last step", (last[0] - before[0], last[1]), expected)
@@ -690,7 +734,7 @@ def check_exact_samples(checks):
         ("long steps along u in the last two columns only", patch(on_axis(2, [0] * 15 + [2]), 9, 1, 1), 15),
         ("the same with steps to spare", patch(on_axis(2, [0] * 15 + [2]), 9, 9, 1), None),
     ):
-        checks.equal(group, label, draw(8, record, bytes(512)).refusal, expected)
+        checks.equal(group, label, checks.draw(group, 8, record, bytes(512)).refusal, expected)
 
 
 def check_cells(checks):
@@ -702,6 +746,7 @@ def check_cells(checks):
         checks.equal(group, f"{exact}", [owner(exact)], owners)
     # x = 3 - i/2 + j/2 at sample (i, j): falling along t, rising along u
     falling_rising = patch(on_axis(0, [3 - i + j for i in range(4) for j in range(4)]), 6, 6, 1)
+    checks.equal(group, "halves along t and u", checks.draw(group, 8, falling_rising, bytes(512))[:2], (None, 49))
     for j, expected in (0, [3, 2, 2, 1, 1, 0, 0]), (1, [3, 3, 2, 2, 1, 1, 0]), (2, [4, 3, 3, 2, 2, 1, 1]):
         found = [x for x, _, _ in row(cells(falling_rising), j)]
         checks.equal(group, f"halves along t and u, row {j}", found, expected)
@@ -711,6 +756,34 @@ def check_cells(checks):
         back = row(cells(from_other_end(record)))
         checks.equal(group, f"from the other end {record}", back, row(cells(record))[::-1])
         checks.equal(group, f"flipped twice {record}", from_other_end(from_other_end(record)), record)
+
+
+def check_neighbours(checks):
+    """A half in each of two rows: down and up leave no slit, the even cell does; and a patch with holes."""
+    group = "neighbours"
+    record = patch(HALVES_IN_BOTH_ROWS, 2, 1, 9)
+    drawn = bytes([9, 9, 0, 9, 9, 0, 0, 9, 9] + [0] * 18)
+    checks.equal(group, "halves in both rows", checks.draw(group, 3, record, bytes(27)), Answer(None, 6, drawn))
+    for label, rule, rows, distances in (
+        ("down", cells, [[0, 0, 1], [1, 1, 2]], {("t", 1): 4, ("u", 1): 3}),
+        ("up", cells_with_halves_up, [[0, 1, 1], [1, 2, 2]], {("t", 1): 4, ("u", 1): 3}),
+        ("to even", cells_with_halves_to_even, [[0, 0, 1], [1, 2, 2]], {("t", 1): 4, ("u", 1): 2, ("u", 2): 1}),
+    ):
+        found = rule(record)
+        checks.equal(group, f"halves {label}", [[x for x, _, _ in row(found, j)] for j in (0, 1)], rows)
+        checks.equal(group, f"halves {label}, half a cell", samples_within_half(record, found), True)
+        checks.equal(group, f"halves {label}, distances", neighbour_distances(record, found), distances)
+    squares = {place(7, (i + j, 3 + i - j, 0)) for i in range(4) for j in range(4)}
+    drawn = bytes(9 if at in squares else 0 for at in range(343))
+    record = patch(CHESSBOARD, 3, 3, 9)
+    checks.equal(group, "a chessboard", checks.draw(group, 7, record, bytes(343)), Answer(None, 16, drawn))
+    dice = random.Random(7)
+    records = (
+        patch([dice.randrange(3) for _ in range(48)], 2 * dice.randrange(2, 5), dice.randrange(3, 7), 1)
+        for _ in range(300)
+    )
+    accepted = sum(checks.draw(group, 3, record, bytes(27)).refusal is None for record in records)
+    checks.equal(group, f"100 patches accepted or more: {accepted}", accepted >= 100, True)
 
 
 def check_refusals(checks):
@@ -737,14 +810,14 @@ def check_refusals(checks):
             (8, held, near, 1, 255, 15),
         ):
             record = shape(coordinates, n, *later, mark)
-            answer = draw(side, record, grid)
+            answer = checks.draw(group, side, record, grid)
             checks.equal(group, f"draw {side} {len(grid)} {record}", answer, Answer(expected, None, grid))
         record = shape(near, limit, *later, 255)
         expected = limit + 1 if shape is curve else 2 * (limit + 1)
-        checks.equal(group, f"draw {record}", draw(8, record, held)[:2], (None, expected))
+        checks.equal(group, f"draw {record}", checks.draw(group, 8, record, held)[:2], (None, expected))
     for m, expected in (0, 13), (1, None), (256, None), (257, 13):
         record = patch([5] * 48, 1, m, 3)
-        checks.equal(group, f"patch m = {m}", draw(8, record, held).refusal, expected)
+        checks.equal(group, f"patch m = {m}", checks.draw(group, 8, record, held).refusal, expected)
     for side, lent, coordinates, n, expected in (
         (1, b"", outside, 0, 11),
         (65, b"", outside, 0, 11),
@@ -762,16 +835,17 @@ def check_refusals(checks):
     checks.equal(group, "a listing ignores the mark", answer, Answer(None, 2, bytes([0, 0, 0, 0, 1, 0]) + b"gh"))
     for side, expected in (2, None), (64, None), (65, 11):
         record = curve([side - 1] * 12, 1, 200)
-        answer = draw(side, record, bytes(side**3))
+        answer = checks.draw(group, side, record, bytes(side**3))
         checks.equal(group, f"side {side}", answer.refusal, expected)
         checks.equal(group, f"side {side}, last byte", answer.lent[-1], 0 if expected else 200)
         checks.equal(group, f"side {side}, listing", list_curve(side, record, bytes(6)).refusal, expected)
     for n, expected in (512, (None, 513)), (513, (13, None)):
         record = curve(on_axis(2, (0, 63, 0, 63)), n, 1)
-        checks.equal(group, f"n = {n}", draw(64, record, bytes(64**3))[:2], expected)
-    checks.equal(group, "a grid one byte longer", draw(64, curve([0] * 12, 1, 1), bytes(64**3 + 1)).refusal, 21)
+        checks.equal(group, f"n = {n}", checks.draw(group, 64, record, bytes(64**3))[:2], expected)
+    longer = checks.draw(group, 64, curve([0] * 12, 1, 1), bytes(64**3 + 1))
+    checks.equal(group, "a grid one byte longer", longer.refusal, 21)
     everywhere = patch([c for i in range(4) for j in range(4) for c in (21 * i, 21 * j, 63 - 21 * i)], 256, 256, 7)
-    checks.equal(group, "the largest patch", draw(64, everywhere, bytes(64**3))[:2], (None, 66049))
+    checks.equal(group, "the largest patch", checks.draw(group, 64, everywhere, bytes(64**3))[:2], (None, 66049))
 
 
 ZERO, QUARTER, HALF, ONE, NOT_A_NUMBER = 0, 0x3E800000, 0x3F000000, 0x3F800000, 0x7FC00000
@@ -1080,8 +1154,13 @@ def check_demand_3_can_fail(checks):
     halves = (8, patch(on_axis(0, K12), 3, 6, 9))
     checks.equal(group, "halves to the lower cell", demand_3([halves], [full, full]), True)
     checks.equal(group, "halves to the even cell", demand_3([halves], [full, full], cells_with_halves_to_even), False)
-    checks.equal(group, "a cell left out", followers_adjacent({(0,): (4, 4, 4), (1,): (4, 4, 2)}), False)
-    checks.equal(group, "cells side by side", followers_adjacent({(0,): (4, 4, 4), (1,): (5, 3, 5)}), True)
+    between_rows = (3, patch(HALVES_IN_BOTH_ROWS, 2, 1, 9))
+    full = bytes([9]) * 27
+    for rule, holds in (cells, True), (cells_with_halves_up, True), (cells_with_halves_to_even, False):
+        checks.equal(group, f"between rows, {rule.__name__}", demand_3([between_rows], [full, full], rule), holds)
+    for label, there, holds in ("a cell left out", (4, 4, 2), False), ("cells side by side", (5, 3, 5), True):
+        found = {(0,): (4, 4, 4), (1,): there}
+        checks.equal(group, label, neighbours_adjacent(curve([4] * 12, 1, 9), found), holds)
     # K3's sample 1 has the value 1/2, its sample 2 the value 1.
     k3 = curve(on_axis(0, (0, 1, 2, 3)), 6, 9)
     checks.equal(group, "either side of a half", near_coordinates(samples(k3)[1,][0]), [0, 1])
@@ -1121,7 +1200,7 @@ def check_random_calls(checks):
         grids = run(calls, start)
         checks.equal(group, f"list {number}", demand_3(calls, grids), True)
         for k, (called, record) in enumerate(calls):
-            answer = draw(called, record, grids[k])
+            answer = checks.draw(group, called, record, grids[k])
             if answer.refusal is not None:
                 checks.equal(group, f"list {number}, call {k}, grid kept", grids[k + 1], grids[k])
             key = (len(record.counts), answer.refusal)
@@ -1141,6 +1220,7 @@ def self_check():
         check_k1_to_k12,
         check_exact_samples,
         check_cells,
+        check_neighbours,
         check_refusals,
         check_swatches,
         check_half_way,

@@ -125,6 +125,30 @@ void count_ties(const struct samples *s, uint64_t *rising, uint64_t *falling, ui
         }
 }
 
+static void count_pair(const struct samples *s, size_t at, size_t next, struct neighbours *n) {
+    int on_halves = 0, apart = 0;
+    for (int axis = 0; axis < 3; axis++) {
+        const wide *v = s->value[axis];
+        apart |= distance(s->cell[axis][at], s->cell[axis][next]) > 1;
+        on_halves |= distance(v[at], v[next]) == s->scale && 2 * (v[at] % s->scale) == s->scale;
+    }
+    n->on_halves += (uint64_t)on_halves;
+    n->apart += (uint64_t)apart;
+}
+
+void count_neighbours(const struct samples *s, struct neighbours *n) {
+    for (size_t at = 0; at < s->along * s->rows; at++) {
+        if ((at + 1) % s->along != 0) {
+            n->along_t++;
+            count_pair(s, at, at + 1, n);
+        }
+        if (at + s->along < s->along * s->rows) {
+            n->along_u++;
+            count_pair(s, at, at + s->along, n);
+        }
+    }
+}
+
 /* Checking, listing and drawing */
 
 static int count_outside(const struct object_call *c) {
@@ -201,17 +225,17 @@ static int sample_holds(const struct samples *s, size_t at, uint32_t side, uint8
         int32_t cell = s->cell[axis][at];
         if (cell < 0 || (int32_t)side <= cell || !within_half(s->value[axis][at], s->scale, cell))
             return 0;
-        if ((at + 1) % s->along != 0 && distance(cell, s->cell[axis][at + 1]) > 1)
-            return 0;
     }
     return grid[place(side, s->cell[0][at], s->cell[1][at], s->cell[2][at])] == mark;
 }
 
 int samples_hold(const struct samples *s, uint32_t side, uint8_t mark, const uint8_t *grid) {
+    struct neighbours neighbours = {0};
     for (size_t at = 0; at < s->along * s->rows; at++)
         if (!sample_holds(s, at, side, mark, grid))
             return 0;
-    return 1;
+    count_neighbours(s, &neighbours);
+    return neighbours.apart == 0;
 }
 
 /* The one or two coordinates within half a cell of a value; answers their number. */

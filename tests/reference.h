@@ -59,7 +59,17 @@ void count_ties(const struct samples *samples, uint64_t *rising, uint64_t *falli
 /* An accepted call leaves the object's values and cells in samples. */
 int64_t reference_object(const struct object_call *call, struct order *order, struct samples *samples);
 
-/* Demand 3, second sentence: every sample's cell is within half a cell and holds the mark; followers differ by one. */
+/* Pairs of neighbouring samples along t and along u, everywhere; of both, those that lie exactly one cell apart and on
+   halves on some axis, and those whose cells differ by more than one on some axis. */
+struct neighbours {
+    uint64_t along_t, along_u, on_halves, apart;
+};
+
+/* Adds the pairs of an accepted object. */
+void count_neighbours(const struct samples *samples, struct neighbours *neighbours);
+
+/* Demand 3, second sentence: every sample's cell is within half a cell and holds the mark, and those of neighbours differ
+   by at most one. */
 int samples_hold(const struct samples *samples, uint32_t side, uint8_t mark, const uint8_t *grid);
 
 /* Demand 3, first sentence: sets explained at each place that holds the mark within half a cell of a sample. */
