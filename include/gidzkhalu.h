@@ -98,7 +98,8 @@ enum {
    order in which they are tried. */
 
 /* Curves: points has x y z of points 0 to 3, 12 bytes. A cell (x, y, z) stands at byte x + side y + side side z. The cell
-   of a sample has on each axis the whole number c with c - 1/2 < value <= c + 1/2. */
+   of a sample has on each axis the whole number c with c - 1/2 < value <= c + 1/2. The cells of neighbouring samples, of a
+   patch those along t and along u, differ by at most one on each axis. */
 
 /* Whether a curve can be drawn. Answer: 0.
    Refusals: 51, 11, 13, 14, 15.

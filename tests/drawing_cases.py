@@ -253,7 +253,7 @@ def patch_samples(cases):
 
 
 def patch_neighbours(cases):
-    """A half in each of two rows, with the axes and then t and u exchanged, and a chessboard; the whole grid is shown."""
+    """A half in each of two rows, on any two axes and with t and u exchanged, every byte shown; and a chessboard."""
     x_of, y_of = HALVES_IN_BOTH_ROWS[0::3], HALVES_IN_BOTH_ROWS[1::3]
     zero = [0] * 16
     for axes, exchanged in product(permutations((x_of, y_of, zero)), (False, True)):

@@ -844,7 +844,7 @@ def check_refusals(checks):
         checks.equal(group, f"n = {n}", checks.draw(group, 64, record, bytes(64**3))[:2], expected)
     longer = checks.draw(group, 64, curve([0] * 12, 1, 1), bytes(64**3 + 1))
     checks.equal(group, "a grid one byte longer", longer.refusal, 21)
-    everywhere = patch([c for i in range(4) for j in range(4) for c in (21 * i, 21 * j, 63 - 21 * i)], 256, 256, 7)
+    everywhere = patch(grid_of_points(lambda i, j: (21 * i, 21 * j, 63 - 21 * i)), 256, 256, 7)
     checks.equal(group, "the largest patch", checks.draw(group, 64, everywhere, bytes(64**3))[:2], (None, 66049))
 
 

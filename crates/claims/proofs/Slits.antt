@@ -13,13 +13,13 @@ use Rattle.drawing.proofs.Accepted.{check-accepted}
 use Rattle.drawing.proofs.Cells.{cells-next-to}
 use Rattle.claims.specs.Slits.{Claim}
 
-no-slit : (S : ℕ) (o : Object) → checkVerdict S o ≡ accepted →
+neighbours-next-to : (S : ℕ) (o : Object) → checkVerdict S o ≡ accepted →
     {sample next : List ℕ} → Neighbours (o .counts) sample next → (a : Axis) → NextTo (cellOf o sample a) (cellOf o next a)
-no-slit S o e n a = cells-next-to (check-accepted S o .0 e) n a
+neighbours-next-to S o e n a = cells-next-to (check-accepted S o .0 e) n a
 
 pub claim : Claim
 claim = record {
-  any-object = no-slit;
-  patch-along-t = λ S n m points mark e i j hi hj. no-slit S (patch n m points mark) e (first hi (index hj no-index));
-  patch-along-u = λ S n m points mark e i j hi hj. no-slit S (patch n m points mark) e (later hi (first hj no-index));
+  any-object = neighbours-next-to;
+  patch-along-t = λ S n m points mark e i j hi hj. neighbours-next-to S (patch n m points mark) e (first hi (index hj no-index));
+  patch-along-u = λ S n m points mark e i j hi hj. neighbours-next-to S (patch n m points mark) e (later hi (first hj no-index));
 }

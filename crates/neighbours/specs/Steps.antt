@@ -24,8 +24,8 @@ tooLong s (n ∷ ns) f =
     someBelow n (λ i. someSample ns (λ is. farApart s (f (i ∷ is)) (f (suc i ∷ is)))) ||
     someBelow (suc n) (λ i. tooLong s ns (λ is. f (i ∷ is)))
 
--- Neighbouring samples: one index differs, by one. Of a curve samples i and i + 1, of a patch neighbours along t and
--- along u; with document 02's A.4 their cells are those that follow one another in demand 3.
+-- Neighbouring samples: one index differs, by one. Of a curve they are samples i and i + 1, of a patch neighbours along t
+-- and along u. Their cells are those that follow one another in demand 3 (document 02, A.4).
 pub data Neighbours : List ℕ → List ℕ → List ℕ → Type 0 where
   first : {n i : ℕ} {ns is : List ℕ} → i < n → Sample ns is → Neighbours (n ∷ ns) (i ∷ is) (suc i ∷ is)
   later : {n i : ℕ} {ns is js : List ℕ} → i ≤ n → Neighbours ns is js → Neighbours (n ∷ ns) (i ∷ is) (i ∷ js)
