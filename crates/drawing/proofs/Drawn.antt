@@ -1,8 +1,8 @@
 -- One drawing in words: a refused one leaves the grid; an accepted one leaves its length, marks every sample's cell,
 -- and leaves every other byte.
-use mathlib.Core.Path.{_≡_, sym, _∙_, ap}
+use mathlib.Core.Path.{_≡_, refl, sym, _∙_, ap}
 use mathlib.Core.Logic.{_⊎_, inl, inr, ⊎-elim}
-use mathlib.Core.List.{List, map, List·Memᴰ, Memᴰ·map, Memᴰ·of-map}
+use mathlib.Core.List.{List, map, List·Memᴰ, Memᴰ·map, Memᴰ·of-map, Memᴰ·cast}
 use Prim.Native.Nat.{ℕ, _<_}
 use lib.ListN.{length, getD}
 use Rattle.bezier.specs.Exact.{Sample}
@@ -24,29 +24,9 @@ pub record PlaceOfSample (S : ℕ) (o : Object) (q : ℕ) : Type 0 where
   pub is-sample : Sample (o .counts) sample
   pub at : q ≡ place S (cellOf o sample)
 
-module _ (S : ℕ) (o : Object) (grid : List ℕ) where
-  -- What an accepted drawing leaves.
-  after : List ℕ
-  after = marked (o .mark) (map (place S) (cells o)) grid
-
-  -- A refused drawing leaves the grid.
-  pub drawn-refused : {k : ℕ} → drawVerdict S (length grid) o ≡ refused k → drawn S o grid ≡ grid
-  unfolding drawn
-  drawn-refused e = rw e
-
-  drawn-accepted : drawVerdict S (length grid) o ≡ accepted → drawn S o grid ≡ after
-  unfolding drawn after
-  drawn-accepted e = rw e
-
-  -- The grid keeps its length.
-  pub length-drawn : length (drawn S o grid) ≡ length grid
-  unfolding after
-  length-drawn =
-      by-verdict (drawVerdict S (length grid) o) _
-      (λ e. rw (drawn-accepted e) (length-marked (o .mark) (map (place S) (cells o)) grid))
-      (λ k e. ap length (drawn-refused e))
-
-  of-sample : {q : ℕ} → List·Memᴰ q (map (place S) (cells o)) → PlaceOfSample S o q
+module _ (S : ℕ) (o : Object) where
+  -- The places that a drawing goes through are those of the samples' cells.
+  pub of-sample : {q : ℕ} → List·Memᴰ q (map (place S) (cells o)) → PlaceOfSample S o q
   unfolding cells
   of-sample {q} m =
       let c = Memᴰ·of-map (place S) (map (cellOf o) (samples (o .counts))) m in
@@ -57,26 +37,47 @@ module _ (S : ℕ) (o : Object) (grid : List ℕ) where
         at = sym (c .2) ∙ ap (place S) (sym (s .2));
       }
 
+  pub place-listed : {q : ℕ} → PlaceOfSample S o q → List·Memᴰ q (map (place S) (cells o))
+  unfolding cells
+  place-listed p = Memᴰ·cast (p .at) (Memᴰ·map (place S) (Memᴰ·map (cellOf o) (sample-listed (p .is-sample))))
+
+module _ (S : ℕ) (o : Object) (grid : List ℕ) where
+  -- A refused drawing leaves the grid.
+  pub drawn-refused : {k : ℕ} → drawVerdict S (length grid) o ≡ refused k → drawn S o grid ≡ grid
+  unfolding drawn
+  drawn-refused e = rw e
+
+  -- An accepted one leaves the marks.
+  pub drawn-accepted : drawVerdict S (length grid) o ≡ accepted →
+      drawn S o grid ≡ marked (o .mark) (map (place S) (cells o)) grid
+  unfolding drawn
+  drawn-accepted e = rw e
+
+  -- The grid keeps its length.
+  pub length-drawn : length (drawn S o grid) ≡ length grid
+  length-drawn =
+      by-verdict (drawVerdict S (length grid) o) _
+      (λ e. rw (drawn-accepted e) (length-marked (o .mark) (map (place S) (cells o)) grid))
+      (λ k e. ap length (drawn-refused e))
+
   -- Each byte holds what it held, or the drawing is accepted and the byte is the place of a sample's cell and holds
   -- the mark.
   pub drawn-holds : (q : ℕ) → q < length grid →
       (getD (drawn S o grid) q 0 ≡ getD grid q 0) ⊎
       ((drawVerdict S (length grid) o ≡ accepted) × PlaceOfSample S o q × (getD (drawn S o grid) q 0 ≡ o .mark))
-  unfolding after
   drawn-holds q h =
       by-verdict (drawVerdict S (length grid) o) _
       (λ e. rw (drawn-accepted e)
-      (⊎-elim (λ kept. inl kept) (λ w. inr (e, of-sample (w .0), w .1))
+      (⊎-elim (λ kept. inl kept) (λ w. inr (e, of-sample S o (w .0), w .1))
       (marked-holds (o .mark) (map (place S) (cells o)) grid q h)))
       (λ k e. inl (ap (λ l. getD l q 0) (drawn-refused e)))
 
   -- After an accepted drawing every sample's cell holds the mark.
   pub drawn-there : drawVerdict S (length grid) o ≡ accepted → {is : List ℕ} → Sample (o .counts) is →
       getD (drawn S o grid) (place S (cellOf o is)) 0 ≡ o .mark
-  unfolding after cells
   drawn-there e {is} b =
       let w = draw-accepted S o (length grid) .0 e in
       rw (drawn-accepted e)
       (marked-there (o .mark) grid
       (rw (w .1) (place-below S (cellOf o is) (cell-inside (w .0) b)))
-      (Memᴰ·map (place S) (Memᴰ·map (cellOf o) (sample-listed b))))
+      (place-listed S o (record { sample = is; is-sample = b; at = refl })))

@@ -1,6 +1,7 @@
 -- `Samples`: the samples that a drawing goes through. `Marked`: what a grid holds after marks. `Accepted`: what
 -- acceptance says. `Cells`: the cells of an accepted object. `Orders`: the refusal numbers in document 01's order.
--- `Drawn`: one drawing in words. `Listed`: one listing.
+-- `Drawn`: one drawing in words. `Listed`: one listing. `NewCells`: the new cells of a drawing are different cells, and
+-- those of drawings in turn add up.
 pub mod Samples
 pub mod Marked
 pub mod Accepted
@@ -8,3 +9,4 @@ pub mod Cells
 pub mod Orders
 pub mod Drawn
 pub mod Listed
+pub mod NewCells

@@ -1,0 +1,191 @@
+-- New cells. A mark on an unmarked cell leaves one unmarked cell less, and a mark on a marked one leaves as many. So a
+-- drawing leaves at most as many as there were, and the difference is the number of different places that it marks and
+-- that were unmarked.
+use mathlib.Core.Path.{_≡_, refl, sym, _∙_, ap}
+use mathlib.Core.Logic.{_↔_, ⊎-elim}
+use mathlib.Core.Bool.{Bool, true, false, cond}
+use mathlib.Core.List.{List, [], _∷_, map, List·Memᴰ, List·Memᴰ·head, List·Memᴰ·tail, List·Memᴰ·not-nil, List·Memᴰ·cases-cons}
+use Prim.Native.Nat.{ℕ, zero, suc, _+_, _≤_, _<_}
+use native.Mathlib.Omega.{arith}
+use lib.Dec.{eqb}
+use lib.ListN.{length, getD, set, replicate, length-set}
+use lib.Seq.{getD-set-same, getD-set-other}
+use Rattle.decide.specs.Refusal.{accepted}
+use Rattle.decide.proofs.Refusal.{by-verdict}
+use Rattle.decide.proofs.Truth.{decided, true-of, false-of, equal}
+use Rattle.cube.specs.Cube.{place}
+use Rattle.cube.proofs.Places.{place-below}
+use Rattle.drawing.specs.Object.{Object, cellOf}
+use Rattle.drawing.specs.Refusals.{drawVerdict}
+use Rattle.drawing.specs.Drawing.{marked, cells, drawn, inTurn}
+use Rattle.drawing.specs.NewCells.{unmarkedCells, newCells, newInTurn, Different}
+use Rattle.drawing.proofs.Accepted.{draw-accepted}
+use Rattle.drawing.proofs.Cells.{cell-inside}
+use Rattle.drawing.proofs.Drawn.{PlaceOfSample, drawn-refused, drawn-accepted, of-sample, place-listed}
+
+-- What a byte adds to the unmarked cells is at most one.
+one-at-most : (b : Bool) → cond b 1 0 ≤ 1
+one-at-most true = omega arith
+one-at-most false = omega arith
+
+-- No more cells are unmarked than there are.
+pub unmarked-at-most : (grid : List ℕ) → unmarkedCells grid ≤ length grid
+unfolding unmarkedCells
+unmarked-at-most [] = omega arith
+unmarked-at-most (mark ∷ grid) = omega (arith, one-at-most (eqb mark 0), unmarked-at-most grid)
+
+-- In a cleared grid all are.
+pub unmarked-cleared : (n : ℕ) → unmarkedCells (replicate n 0) ≡ n
+unfolding unmarkedCells
+unmarked-cleared zero = refl
+unmarked-cleared (suc n) = omega (arith, unmarked-cleared n)
+
+-- One mark: the cell is new where it was unmarked.
+pub unmarked-set : (m : ℕ) → 1 ≤ m → (grid : List ℕ) (p : ℕ) → p < length grid →
+    cond (eqb (getD grid p 0) 0) 1 0 + unmarkedCells (set grid p m) ≡ unmarkedCells grid
+unfolding unmarkedCells
+unmarked-set m h [] p l = absurd (omega arith)
+unmarked-set m h (b ∷ grid) zero l =
+    let marks : eqb m 0 ≡ false = false-of (eqb m 0) (λ t. omega (arith, h, equal m 0 .0 t)) in rw marks (omega arith)
+unmarked-set m h (b ∷ grid) (suc p) l = omega (arith, unmarked-set m h grid p (omega arith))
+
+-- What is lost in no subtraction is the number of new cells.
+pub new-of : (before after : List ℕ) {new : ℕ} → new + unmarkedCells after ≡ unmarkedCells before →
+    new ≡ newCells before after
+unfolding newCells
+new-of before after e = omega (arith, e)
+
+pub new-back : (before after : List ℕ) → unmarkedCells after ≤ unmarkedCells before →
+    newCells before after + unmarkedCells after ≡ unmarkedCells before
+unfolding newCells
+new-back before after h = omega (arith, h)
+
+-- Marks at places of the grid.
+module _ (m : ℕ) (mark : 1 ≤ m) where
+  -- The places that are unmarked when the mark gets there.
+  unfoldable freshPlaces : (ps grid : List ℕ) → List ℕ
+  freshPlaces [] grid = []
+  freshPlaces (p ∷ ps) grid =
+      cond (eqb (getD grid p 0) 0) (p ∷ freshPlaces ps (set grid p m)) (freshPlaces ps (set grid p m))
+
+  -- Each place is a byte of the grid.
+  abbrev InGrid : (ps grid : List ℕ) → Type 0
+  InGrid ps grid = (q : ℕ) → List·Memᴰ q ps → q < length grid
+
+  -- And of the grid with a mark more.
+  later : (p : ℕ) (ps grid : List ℕ) → InGrid (p ∷ ps) grid → InGrid ps (set grid p m)
+  later p ps grid h q l = rw length-set (h q (List·Memᴰ·tail l))
+
+  -- They are as many as there are unmarked cells less afterwards.
+  fresh-count : (ps grid : List ℕ) → InGrid ps grid →
+      length (freshPlaces ps grid) + unmarkedCells (marked m ps grid) ≡ unmarkedCells grid
+  unfolding freshPlaces marked
+  fresh-count [] grid h = omega arith
+  fresh-count (p ∷ ps) grid h =
+      let one = unmarked-set m mark grid p (h p (List·Memᴰ·head refl)) in
+      let rest = fresh-count ps (set grid p m) (later p ps grid h) in
+      by-test (eqb (getD grid p 0) 0) _ _ one rest
+    where
+      by-test : (b : Bool) (u v : ℕ) →
+          cond b 1 0 + u ≡ unmarkedCells grid → length (freshPlaces ps (set grid p m)) + v ≡ u →
+          length (cond b (p ∷ freshPlaces ps (set grid p m)) (freshPlaces ps (set grid p m))) + v ≡ unmarkedCells grid
+      by-test true u v one rest = omega (arith, one, rest)
+      by-test false u v one rest = omega (arith, one, rest)
+
+  -- A place is one of them exactly if it is one of the places and was unmarked.
+  fresh-are : (ps grid : List ℕ) → InGrid ps grid → (q : ℕ) →
+      List·Memᴰ q (freshPlaces ps grid) ↔ (List·Memᴰ q ps × (getD grid q 0 ≡ 0))
+  unfolding freshPlaces
+  fresh-are [] grid h q = (λ l. absurd (List·Memᴰ·not-nil l), λ w. absurd (List·Memᴰ·not-nil (w .0)))
+  fresh-are (p ∷ ps) grid h q =
+      let rest = fresh-are ps (set grid p m) (later p ps grid h) q in
+      let here : p < length grid = h p (List·Memᴰ·head refl) in
+      ⊎-elim
+      (λ t. rw (true-of (eqb (getD grid p 0) 0) t) (
+        λ l. ⊎-elim
+            (λ e. (List·Memᴰ·head e, ap (λ k. getD grid k 0) e ∙ equal (getD grid p 0) 0 .0 t))
+            (λ k. let w = rest .0 k in (List·Memᴰ·tail (w .0), before here (w .1)))
+            (List·Memᴰ·cases-cons l),
+        λ w. ⊎-elim
+            (λ s. List·Memᴰ·head (equal q p .0 s))
+            (λ f. List·Memᴰ·tail (rest .1 (elsewhere (λ e. f (equal q p .1 e)) (w .0) (w .1))))
+            (decided (eqb q p)),
+      ))
+      (λ f. rw (false-of (eqb (getD grid p 0) 0) f) (
+        λ l. let w = rest .0 l in (List·Memᴰ·tail (w .0), before here (w .1)),
+        λ w. rest .1 (elsewhere (λ e. f (equal (getD grid p 0) 0 .1 (ap (λ k. getD grid k 0) (sym e) ∙ w .1))) (w .0) (w .1)),
+      ))
+      (decided (eqb (getD grid p 0) 0))
+    where
+      -- The mark is not 0, so where the grid with the mark is unmarked it was so before.
+      before : p < length grid → getD (set grid p m) q 0 ≡ 0 → getD grid q 0 ≡ 0
+      before here e =
+          ⊎-elim
+          (λ s. absurd (omega (arith, mark, e, ap (λ k. getD (set grid p m) k 0) (equal q p .0 s), getD-set-same grid p m 0 here)))
+          (λ f. sym (getD-set-other grid p q m 0 (λ k. f (equal q p .1 k))) ∙ e)
+          (decided (eqb q p))
+
+      -- At another place the grid is as it was.
+      elsewhere : ¬ (q ≡ p) → List·Memᴰ q (p ∷ ps) → getD grid q 0 ≡ 0 → List·Memᴰ q ps × (getD (set grid p m) q 0 ≡ 0)
+      elsewhere n l e =
+          (⊎-elim (λ k. absurd (n k)) (λ k. k) (List·Memᴰ·cases-cons l), getD-set-other grid p q m 0 n ∙ e)
+
+  -- No place is among them twice.
+  fresh-different : (ps grid : List ℕ) → InGrid ps grid → Different (freshPlaces ps grid)
+  unfolding freshPlaces
+  fresh-different [] grid h = tt
+  fresh-different (p ∷ ps) grid h =
+      by-test (eqb (getD grid p 0) 0) (fresh-different ps (set grid p m) (later p ps grid h))
+      (λ l. omega (
+        arith,
+        mark,
+        fresh-are ps (set grid p m) (later p ps grid h) p .0 l .1,
+        getD-set-same grid p m 0 (h p (List·Memᴰ·head refl)),
+      ))
+    where
+      by-test : (b : Bool) → Different (freshPlaces ps (set grid p m)) → ¬ List·Memᴰ p (freshPlaces ps (set grid p m)) →
+          Different (cond b (p ∷ freshPlaces ps (set grid p m)) (freshPlaces ps (set grid p m)))
+      by-test true d n = (n, d)
+      by-test false d n = d
+
+-- The places that an accepted drawing turns from unmarked to marked: those of its samples' cells that were unmarked, each
+-- once, as many as there are unmarked cells less afterwards.
+pub record NewPlaces (S : ℕ) (o : Object) (grid : List ℕ) : Type 0 where
+  pub places : List ℕ
+  pub count : length places + unmarkedCells (drawn S o grid) ≡ unmarkedCells grid
+  pub are : (q : ℕ) → List·Memᴰ q places ↔ (PlaceOfSample S o q × (getD grid q 0 ≡ 0))
+  pub different : Different places
+
+module _ (S : ℕ) (o : Object) (grid : List ℕ) where
+  pub new-places : drawVerdict S (length grid) o ≡ accepted → NewPlaces S o grid
+  new-places e =
+      let w = draw-accepted S o (length grid) .0 e in
+      let ps : List ℕ = map (place S) (cells o) in
+      let inside : (q : ℕ) → List·Memᴰ q ps → q < length grid =
+      λ q l. let s = of-sample S o l in
+      rw (s .at, w .1) (place-below S (cellOf o (s .sample)) (cell-inside (w .0) (s .is-sample))) in
+      record {
+        places = freshPlaces (o .mark) (w .2) ps grid;
+        count = rw (drawn-accepted S o grid e) (fresh-count (o .mark) (w .2) ps grid inside);
+        are = λ q. let f = fresh-are (o .mark) (w .2) ps grid inside q in (
+          λ l. (of-sample S o (f .0 l .0), f .0 l .1),
+          λ p. f .1 (place-listed S o (p .0), p .1),
+        );
+        different = fresh-different (o .mark) (w .2) ps grid inside;
+      }
+
+  -- A drawing leaves at most as many unmarked cells as there were: an accepted one by the above, a refused one all.
+  pub drawn-at-most : unmarkedCells (drawn S o grid) ≤ unmarkedCells grid
+  drawn-at-most =
+      by-verdict (drawVerdict S (length grid) o) _
+      (λ e. omega (arith, new-places e .count))
+      (λ k e. rw (drawn-refused S o grid e) (omega arith))
+
+-- New cells of calls in turn: nothing is lost in their sum.
+pub turns-new : {C : Type 0} (draw : C → List ℕ → List ℕ) →
+    ((c : C) (grid : List ℕ) → unmarkedCells (draw c grid) ≤ unmarkedCells grid) → (cs : List C) (grid : List ℕ) →
+    newInTurn draw cs grid + unmarkedCells (inTurn draw cs grid) ≡ unmarkedCells grid
+unfolding newInTurn inTurn
+turns-new draw fewer [] grid = omega arith
+turns-new draw fewer (c ∷ cs) grid =
+    omega (arith, new-back grid (draw c grid) (fewer c grid), turns-new draw fewer cs (draw c grid))
