@@ -12,7 +12,9 @@ ghost use Rattle.drawing.specs.Refusals.{order, checkVerdict};
 ghost use Rattle.scan.specs.Answer.{Draws, Lists};
 ghost use Rattle.curve.specs.Curve.{curveOf};
 use decide::Verdict;
-use scan::answer::Answer;
+use scan::answer::DrawAnswer;
+use scan::answer::Drawn;
+use scan::answer::ListAnswer;
 
 // A curve record: x, y, z of points 0 to 3, the step count and the mark.
 pub struct Curve {
@@ -29,29 +31,32 @@ pub fn check_curve(side: u32, curve: Curve) -> Verdict
 }
 
 // Writes x y z of each sample's cell from the front of the list. Refused: 11, 13, 22, 14, 15.
-pub fn list_curve(side: u32, curve: Curve, list: &mut [u8]) -> Answer
+pub fn list_curve(side: u32, curve: Curve, list: &mut [u8]) -> ListAnswer
     ensures { λ r. ⌜ Lists side (curveOf curve) (now (list .entry)) (now (list .exit)) r ⌝ }
 {
     let count = curve.steps as usize + 1;
     match verdict(side, curve, false, false, list.len() < 3 * count) {
-        Verdict::Refused(k) => Answer::Refused(k),
+        Verdict::Refused(k) => ListAnswer::Refused(k),
         Verdict::Accepted => {
             samples::list_samples(side, curve, list);
-            Answer::Samples(curve.steps + 1)
+            ListAnswer::Samples(curve.steps + 1)
         }
     }
 }
 
 // Writes the mark in each sample's cell of the grid. Refused: 11, 21, 12, 13, 14, 15.
-pub fn draw_curve(side: u32, curve: Curve, grid: &mut [u8]) -> Answer
+pub fn draw_curve(side: u32, curve: Curve, grid: &mut [u8]) -> DrawAnswer
     ensures { λ r. ⌜ Draws side (curveOf curve) (now (grid .entry)) (now (grid .exit)) r ⌝ }
 {
     let cube = scan::refusal::is_volume(side, grid.len());
     match verdict(side, curve, !cube, curve.mark == 0, false) {
-        Verdict::Refused(k) => Answer::Refused(k),
+        Verdict::Refused(k) => DrawAnswer::Refused(k),
         Verdict::Accepted => {
-            samples::mark_samples(side, curve, grid);
-            Answer::Samples(curve.steps + 1) // samples 0 to n
+            let new_cells = samples::mark_samples(side, curve, grid);
+            DrawAnswer::Accepted(Drawn {
+                samples: curve.steps + 1, // samples 0 to n
+                new_cells,
+            })
         }
     }
 }

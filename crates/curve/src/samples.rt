@@ -1,11 +1,12 @@
 // The walk through an accepted curve's samples.
 ghost use mathlib.Core.Path.{_≡_};
-ghost use Prim.Native.Nat.{_<_};
+ghost use Prim.Native.Nat.{_+_, _<_};
 ghost use lib.IntN.{pos};
 ghost use lib.ListN.{length, getD};
 ghost use Rattle.decide.specs.Refusal.{accepted};
 ghost use Rattle.drawing.specs.Refusals.{drawVerdict, listVerdict};
 ghost use Rattle.drawing.specs.Drawing.{drawn, listed};
+ghost use Rattle.drawing.specs.NewCells.{unmarkedCells};
 ghost use Rattle.cubic.specs.Axis.{startOf};
 ghost use Rattle.cubic.specs.Differences.{differencesAt};
 ghost use Rattle.scan.specs.Walker.{SmallStride, SmallStrides};
@@ -45,15 +46,16 @@ fn start_walker(curve: Curve, h: Strides) -> Walker
     }
 }
 
-// Marks the cells of an accepted curve's samples.
-pub fn mark_samples(side: u32, curve: Curve, grid: &mut [u8])
+// Marks the cells of an accepted curve's samples. Answers how many of them were unmarked before.
+pub fn mark_samples(side: u32, curve: Curve, grid: &mut [u8]) -> u32
     requires { ⌜ drawVerdict side (length (now grid)) (curveOf curve) ≡ accepted ⌝ }
+    ensures { λ r. ⌜ r + unmarkedCells (now (grid .exit)) ≡ unmarkedCells (now (grid .entry)) ⌝ }
     ensures { λ _. ⌜ now (grid .exit) ≡ drawn side (curveOf curve) (now (grid .entry)) ⌝ }
 {
     let h = scan::number::grid_strides(side);
     let start = start_walker(curve, h);
     let scale = scan::number::cubed(curve.steps);
-    scan::mark::mark_row(start, curve.steps, scale, h, curve.mark, grid);
+    scan::mark::mark_row(start, curve.steps, scale, h, curve.mark, grid)
 }
 
 // Lists the cells of an accepted curve's samples.

@@ -13,7 +13,8 @@ ghost use Rattle.drawing.specs.Refusals.{countOut, order, checkVerdict};
 ghost use Rattle.scan.specs.Answer.{Draws};
 ghost use Rattle.patch.specs.Patch.{patchOf};
 use decide::Verdict;
-use scan::answer::Answer;
+use scan::answer::DrawAnswer;
+use scan::answer::Drawn;
 
 // A patch record: x, y, z of points 0 to 15, the step counts n along t and m along u, and the mark.
 pub struct Patch {
@@ -31,15 +32,18 @@ pub fn check_patch(side: u32, patch: Patch) -> Verdict
 }
 
 // Writes the mark in each sample's cell of the grid. Refused: 11, 21, 12, 13, 14, 15.
-pub fn draw_patch(side: u32, patch: Patch, grid: &mut [u8]) -> Answer
+pub fn draw_patch(side: u32, patch: Patch, grid: &mut [u8]) -> DrawAnswer
     ensures { λ r. ⌜ Draws side (patchOf patch) (now (grid .entry)) (now (grid .exit)) r ⌝ }
 {
     let cube = scan::refusal::is_volume(side, grid.len());
     match verdict(side, patch, !cube, patch.mark == 0) {
-        Verdict::Refused(k) => Answer::Refused(k),
+        Verdict::Refused(k) => DrawAnswer::Refused(k),
         Verdict::Accepted => {
-            rows::mark_rows(side, patch, grid);
-            Answer::Samples((patch.n + 1) * (patch.m + 1))
+            let new_cells = rows::mark_rows(side, patch, grid);
+            DrawAnswer::Accepted(Drawn {
+                samples: (patch.n + 1) * (patch.m + 1),
+                new_cells,
+            })
         }
     }
 }

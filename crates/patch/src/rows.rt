@@ -1,10 +1,11 @@
 // The walk through an accepted patch's rows.
 ghost use mathlib.Core.Path.{_≡_};
-ghost use Prim.Native.Nat.{_<_};
+ghost use Prim.Native.Nat.{_+_, _<_};
 ghost use lib.ListN.{length};
 ghost use Rattle.decide.specs.Refusal.{accepted};
 ghost use Rattle.drawing.specs.Refusals.{drawVerdict};
 ghost use Rattle.drawing.specs.Drawing.{drawn};
+ghost use Rattle.drawing.specs.NewCells.{unmarkedCells};
 ghost use Rattle.scan.specs.Walker.{SmallStride, SmallStrides};
 ghost use Rattle.patch.specs.Patch.{patchOf};
 ghost use Rattle.patch.specs.Machine.{InLimits, startLine, startLines, rowLine, rowWalker};
@@ -128,18 +129,20 @@ impl Lines {
     }
 }
 
-// Marks the cells of an accepted patch's samples, row by row.
-pub(crate) fn mark_rows(side: u32, patch: Patch, grid: &mut [u8])
+// Marks the cells of an accepted patch's samples, row by row. Answers how many of them were unmarked before.
+pub(crate) fn mark_rows(side: u32, patch: Patch, grid: &mut [u8]) -> u32
     requires { ⌜ drawVerdict side (length (now grid)) (patchOf patch) ≡ accepted ⌝ }
+    ensures { λ r. ⌜ r + unmarkedCells (now (grid .exit)) ≡ unmarkedCells (now (grid .entry)) ⌝ }
     ensures { λ _. ⌜ now (grid .exit) ≡ drawn side (patchOf patch) (now (grid .entry)) ⌝ }
 {
     let h = scan::number::grid_strides(side);
     let scale = crate::start::scale(patch);
     let mark = patch.mark;
     let mut lines = start_lines(patch, h);
-    scan::mark::mark_row(lines.row(), patch.n, scale, h, mark, grid);
+    let mut new_cells = scan::mark::mark_row(lines.row(), patch.n, scale, h, mark, grid);
     for j in 0..patch.m {
         lines = lines.next(scale, h);
-        scan::mark::mark_row(lines.row(), patch.n, scale, h, mark, grid);
+        new_cells += scan::mark::mark_row(lines.row(), patch.n, scale, h, mark, grid);
     }
+    new_cells
 }

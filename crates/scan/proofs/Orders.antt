@@ -3,7 +3,7 @@
 use mathlib.Core.Path.{_≡_, sym, _∙_, ap}
 use mathlib.Core.Bool.{Bool, true, false, not}
 use mathlib.Core.List.{List, [], _∷_}
-use Prim.Native.Nat.{ℕ, _≤_, _<_}
+use Prim.Native.Nat.{ℕ, _+_, _≤_, _<_}
 use lib.Dec.{eqb}
 use lib.ListN.{length, getD}
 use Rattle.decide.specs.Some.{someOf}
@@ -19,9 +19,11 @@ use Rattle.cube.proofs.Words.{side-in}
 use Rattle.drawing.specs.Object.{Object}
 use Rattle.drawing.specs.Refusals.{countOut, coordinateOut, stepsTooLong, order, drawVerdict, sampleCount}
 use Rattle.drawing.specs.Drawing.{drawn}
+use Rattle.drawing.specs.NewCells.{unmarkedCells}
 use Rattle.drawing.proofs.Accepted.{coordinate-in}
 use Rattle.drawing.proofs.Drawn.{drawn-refused}
-use Rattle.scan.specs.declared.answer.Answer.the-variants as answers
+use Rattle.drawing.proofs.NewCells.{new-of}
+use Rattle.scan.specs.declared.answer.DrawAnswer.the-variants as answers
 use Rattle.scan.specs.Answer.{Draws}
 use Rattle.scan.specs.Refusals.{beforeSteps}
 
@@ -107,6 +109,7 @@ module _ (S : ℕ) (o : Object) (grid : List ℕ) (v : found.Verdict) (judged : 
     pub draw-is-accepted : drawVerdict S (length grid) o ≡ accepted
     draw-is-accepted = judged ∙ ap verdictOf q
 
-    pub draws-accepted : {after : List ℕ} {count : ℕ} → after ≡ drawn S o grid → count ≡ sampleCount (o .counts) →
-        Draws S o grid after (answers.Samples count)
-    draws-accepted e n = record { answer = rw (draw-is-accepted, n); leaves = e }
+    pub draws-accepted : (after : List ℕ) {count new : ℕ} → after ≡ drawn S o grid → count ≡ sampleCount (o .counts) →
+        new + unmarkedCells after ≡ unmarkedCells grid →
+        Draws S o grid after (answers.Accepted (record { samples = count; «new_cells» = new }))
+    draws-accepted after e n k = record { answer = rw (draw-is-accepted, n, new-of grid after k); leaves = e }

@@ -1,13 +1,54 @@
--- The contract of a drawing or a listing fixes the answer: what an answer says, no other answer says.
-use mathlib.Core.Path.{_≡_}
+-- The contract of a drawing or a listing fixes the answer and what is left in the grid or the list.
+use mathlib.Core.Path.{_≡_, refl, sym, _∙_, ap}
+use mathlib.Core.List.{List}
 use Prim.Native.Nat.{ℕ}
-use native.Mathlib.Omega.{arith}
-use Rattle.scan.specs.declared.answer.Answer.{Answer}
-use Rattle.scan.specs.declared.answer.Answer.the-variants.{Samples, Refused}
-use Rattle.scan.specs.Answer.{answerOf}
+use lib.ListN.{length}
+use Rattle.decide.specs.Refusal.{Outcome, gives, refuses, outcome}
+use Rattle.drawing.specs.Object.{Object}
+use Rattle.drawing.specs.Refusals.{drawVerdict, sampleCount}
+use Rattle.drawing.specs.NewCells.{newCells}
+use Rattle.scan.specs.declared.answer.Drawn.{Drawn}
+use Rattle.scan.specs.declared.answer.DrawAnswer.{DrawAnswer}
+use Rattle.scan.specs.declared.answer.DrawAnswer.the-variants as draws
+use Rattle.scan.specs.declared.answer.ListAnswer.{ListAnswer}
+use Rattle.scan.specs.declared.answer.ListAnswer.the-variants as lists
+use Rattle.scan.specs.Answer.{drawAnswerOf, Draws, listAnswerOf, Lists}
 
-pub answer-unique : (r s : Answer) → answerOf r ≡ answerOf s → r ≡ s
-answer-unique (Samples j) (Samples k) e = cc
-answer-unique (Samples j) (Refused k) e = let z : _≡_ {A = ℕ} 0 1 = cc in absurd (omega arith)
-answer-unique (Refused j) (Samples k) e = let z : _≡_ {A = ℕ} 0 1 = cc in absurd (omega arith)
-answer-unique (Refused j) (Refused k) e = cc
+-- The answer that says this.
+abbrev drawing : Outcome Drawn → DrawAnswer
+drawing (gives d) = draws.Accepted d
+drawing (refuses k) = draws.Refused k
+
+abbrev listing : Outcome ℕ → ListAnswer
+listing (gives n) = lists.Samples n
+listing (refuses k) = lists.Refused k
+
+drawing-said : (r : DrawAnswer) → drawing (drawAnswerOf r) ≡ r
+drawing-said (draws.Accepted d) = refl
+drawing-said (draws.Refused k) = refl
+
+listing-said : (r : ListAnswer) → listing (listAnswerOf r) ≡ r
+listing-said (lists.Samples n) = refl
+listing-said (lists.Refused k) = refl
+
+module _ (S : ℕ) (o : Object) (grid : List ℕ) {a b : List ℕ} {r s : DrawAnswer} (d : Draws S o grid a r)
+    (e : Draws S o grid b s) where
+  pub grid-unique : a ≡ b
+  grid-unique = d .leaves ∙ sym (e .leaves)
+
+  pub draw-answer-unique : r ≡ s
+  draw-answer-unique =
+      sym (drawing-said r) ∙
+      ap drawing (d .answer ∙
+      ap (λ g. outcome (drawVerdict S (length grid) o)
+      (record { samples = sampleCount (o .counts); «new_cells» = newCells grid g })) grid-unique ∙
+      sym (e .answer)) ∙
+      drawing-said s
+
+module _ (S : ℕ) (o : Object) (list : List ℕ) {a b : List ℕ} {r s : ListAnswer} (d : Lists S o list a r)
+    (e : Lists S o list b s) where
+  pub list-unique : a ≡ b
+  list-unique = d .leaves ∙ sym (e .leaves)
+
+  pub list-answer-unique : r ≡ s
+  list-answer-unique = sym (listing-said r) ∙ ap listing (d .answer ∙ sym (e .answer)) ∙ listing-said s

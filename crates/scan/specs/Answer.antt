@@ -1,4 +1,4 @@
--- What the answers of drawings and listings say in document 01's numbers, and what a call leaves in what is lent to it.
+-- What the answers of drawings and listings say in the documents' numbers, and what a call leaves in what is lent to it.
 use mathlib.Core.Path.{_≡_}
 use mathlib.Core.List.{List}
 use Prim.Native.Nat.{ℕ}
@@ -7,20 +7,31 @@ use Rattle.decide.specs.Refusal.{Outcome, gives, refuses, outcome}
 use Rattle.drawing.specs.Object.{Object}
 use Rattle.drawing.specs.Refusals.{drawVerdict, listVerdict, sampleCount}
 use Rattle.drawing.specs.Drawing.{drawn, listed}
-use Rattle.scan.specs.declared.answer.Answer.{Answer}
-use Rattle.scan.specs.declared.answer.Answer.the-variants.{Samples, Refused}
+use Rattle.drawing.specs.NewCells.{newCells}
+use Rattle.scan.specs.declared.answer.Drawn.{Drawn}
+use Rattle.scan.specs.declared.answer.DrawAnswer.{DrawAnswer}
+use Rattle.scan.specs.declared.answer.DrawAnswer.the-variants as draws
+use Rattle.scan.specs.declared.answer.ListAnswer.{ListAnswer}
+use Rattle.scan.specs.declared.answer.ListAnswer.the-variants as lists
 
--- What an answer says: the number of samples, or the number that refuses the call.
-abbrev pub answerOf : Answer → Outcome ℕ
-answerOf (Samples k) = gives k
-answerOf (Refused k) = refuses k
+-- What a drawing's answer says: the numbers of samples and of new cells, or the number that refuses the call.
+abbrev pub drawAnswerOf : DrawAnswer → Outcome Drawn
+drawAnswerOf (draws.Accepted d) = gives d
+drawAnswerOf (draws.Refused k) = refuses k
 
--- A drawing: its answer, and what the grid holds afterwards.
-pub record Draws (S : ℕ) (o : Object) (grid gridAfter : List ℕ) (r : Answer) : Type 0 where
-  pub answer : answerOf r ≡ outcome (drawVerdict S (length grid) o) (sampleCount (o .counts))
+-- A drawing, of whatever object: its answer, with the new cells, those unmarked before minus those unmarked after, and
+-- what the grid holds afterwards.
+pub record Draws (S : ℕ) (o : Object) (grid gridAfter : List ℕ) (r : DrawAnswer) : Type 0 where
+  pub answer : drawAnswerOf r ≡ outcome (drawVerdict S (length grid) o)
+      (record { samples = sampleCount (o .counts); «new_cells» = newCells grid gridAfter })
   pub leaves : gridAfter ≡ drawn S o grid
 
+-- What a listing's answer says: the number of samples, or the number that refuses the call.
+abbrev pub listAnswerOf : ListAnswer → Outcome ℕ
+listAnswerOf (lists.Samples k) = gives k
+listAnswerOf (lists.Refused k) = refuses k
+
 -- A listing: its answer, and what the list holds afterwards.
-pub record Lists (S : ℕ) (o : Object) (list listAfter : List ℕ) (r : Answer) : Type 0 where
-  pub answer : answerOf r ≡ outcome (listVerdict S (length list) o) (sampleCount (o .counts))
+pub record Lists (S : ℕ) (o : Object) (list listAfter : List ℕ) (r : ListAnswer) : Type 0 where
+  pub answer : listAnswerOf r ≡ outcome (listVerdict S (length list) o) (sampleCount (o .counts))
   pub leaves : listAfter ≡ listed S o list

@@ -1,7 +1,20 @@
-// The answers of drawings and listings.
+// The answers of drawings and of listings.
 
-// What a drawing or a listing answers: the number of samples, or the refusal's number.
-pub enum Answer {
+// What an accepted drawing answers: the number of its samples, and that of the cells that it turned from unmarked to
+// marked.
+pub struct Drawn {
+    pub samples: u32,
+    pub new_cells: u32,
+}
+
+// What a drawing answers, or the refusal's number.
+pub enum DrawAnswer {
+    Accepted(Drawn),
+    Refused(u32),
+}
+
+// What a listing answers: the number of samples, or the refusal's number.
+pub enum ListAnswer {
     Samples(u32),
     Refused(u32),
 }

@@ -61,7 +61,7 @@ returns-2 c =
     let t = m .before .before in
     let b = t .before .before in
     draws-accepted (s b .args .side) (curveOf (s b .args .curve)) (now (s b .args .grid)) _ (judged b) (t .enum-told .given .1)
-    (m .mark-samples .ensures) (omega arith)
+    _ (m .mark-samples .ensures .1) (omega arith) (m .mark-samples .ensures .0)
 
 pub draw-curve-spec : {M : Type 1} → statement M
 draw-curve-spec =

@@ -78,7 +78,7 @@ returns-2 c =
     let t = m .before .before in
     let b = t .before .before in
     draws-accepted (s b .args .side) (patchOf (s b .args .patch)) (now (s b .args .grid)) _ (judged b) (t .enum-told .given .1)
-    (m .mark-rows .ensures) (omega arith)
+    _ (m .mark-rows .ensures .1) (omega arith) (m .mark-rows .ensures .0)
 
 pub draw-patch-spec : {M : Type 1} → statement M
 draw-patch-spec =

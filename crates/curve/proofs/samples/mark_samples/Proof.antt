@@ -39,9 +39,11 @@ mark-row-requires : tie.Need-mark-row-requires
 mark-row-requires c κs =
     let b = c .before in
     let s = b .before .before .before .before in
-    let w = draw-accepted (s .args .side) (curveOf (s .args .curve)) _ .0 (s .pre) in
-    rw (scale-held (limits s) (b .cubed .ensures) .same, b .before .start-walker .ensures, b .before .before .grid-strides .ensures, w .1)
-    (row-on-grid (grid-row (s .args .curve) (twelve s) (drawable s)) (start-at (s .args .curve) (drawable s) (gridStrides (s .args .side))))
+    let w = draw-accepted (s .args .side) (curveOf (s .args .curve)) _ .0 (s .pre) in (
+      rw (scale-held (limits s) (b .cubed .ensures) .same, b .before .start-walker .ensures, b .before .before .grid-strides .ensures, w .1)
+          (row-on-grid (grid-row (s .args .curve) (twelve s) (drawable s)) (start-at (s .args .curve) (drawable s) (gridStrides (s .args .side)))),
+      (limits s .count-most, w .2),
+    )
 
 same-length : tie.Need-same-length
 same-length c = search needs
@@ -50,9 +52,12 @@ returns : tie.Need-returns
 returns c =
     let b = c .before .before .before .before in
     let s = b .before .before .before .before in
-    rw (scale-held (limits s) (b .cubed .ensures) .same, b .before .start-walker .ensures, b .before .before .grid-strides .ensures)
-    at (c .before .before .mark-row .ensures) ∙
-    sym (drawn-row (s .args .curve) (twelve s) (drawable s) (now (s .args .grid)) (s .pre))
+    let m = c .before .before .mark-row .ensures in (
+      m .0,
+      rw (scale-held (limits s) (b .cubed .ensures) .same, b .before .start-walker .ensures, b .before .before .grid-strides .ensures)
+          at (m .1) ∙
+          sym (drawn-row (s .args .curve) (twelve s) (drawable s) (now (s .args .grid)) (s .pre)),
+    )
 
 pub mark-samples-spec : {M : Type 1} → statement M
 mark-samples-spec =

@@ -1,9 +1,10 @@
--- `mark_rows` meets its contract: after row j the grid has the marks of the rows 0 to j.
+-- `mark_rows` meets its contract: after row j the grid has the marks of the rows 0 to j, and has lost as many unmarked
+-- cells as are counted.
 use borrow.Author.Needs.{needs}
 use denote.Ref.{now}
-use mathlib.Core.Path.{_≡_, sym, _∙_, ap}
+use mathlib.Core.Path.{_≡_, refl, sym, _∙_, ap}
 use mathlib.Core.List.{List}
-use Prim.Native.Nat.{ℕ, suc, _-_, _≤_, _<_, zero-le}
+use Prim.Native.Nat.{ℕ, suc, _+_, _-_, _≤_, _<_, zero-le}
 use native.Mathlib.Numerals.{add-one}
 use native.Mathlib.Omega.{arith}
 use lib.ListN.{length}
@@ -13,9 +14,12 @@ use Rattle.drawing.specs.Object.{scaleOf}
 use Rattle.drawing.specs.Refusals.{Drawable}
 use Rattle.cubic.proofs.Fits.{read}
 use Rattle.drawing.specs.Drawing.{marked}
+use Rattle.drawing.specs.NewCells.{unmarkedCells}
 use Rattle.drawing.proofs.Accepted.{draw-accepted}
 use Rattle.drawing.proofs.Marked.{marked-append, length-marked}
 use Rattle.scan.specs.Walker.{gridStrides}
+use Rattle.drawing.proofs.NewCells.{unmarked-at-most}
+use Rattle.scan.proofs.Natural.{cube-grows}
 use Rattle.scan.proofs.Samples.{grid-small}
 use Rattle.patch.specs.declared.Patch.{Patch}
 use Rattle.patch.specs.declared.rows.Lines.{Lines}
@@ -27,36 +31,39 @@ use Rattle.patch.proofs.Walked.{drawn-rows, room-for-next, next-is, roo
 use Rattle.patch.proofs.rows.mark_rows.Statement.{statement}
 use Rattle.patch.proofs.rows.mark_rows.Tie as tie
 
--- The rows so far, where grid₀ has the marks of row 0.
-record SoFar (S : ℕ) (p : Patch) (grid₀ grid : List ℕ) (lines : Lines) (j : ℕ) : Type 0 where
+-- The rows so far, where grid₀ has the marks of row 0 and new₀ counts its new cells.
+record SoFar (S : ℕ) (p : Patch) (grid₀ : List ℕ) (new₀ : ℕ) (grid : List ℕ) (lines : Lines) (new j : ℕ) : Type 0 where
   pub within : j ≤ p .m
   pub on-row : OnRow p (gridStrides S) j lines
   pub marks : (g : List ℕ) → grid₀ ≡ marked (p .mark) (places S p 0) g → grid ≡ marked (p .mark) (places S p j) g
   pub size : length grid ≡ volume S
+  pub fewer : new + unmarkedCells grid ≡ new₀ + unmarkedCells grid₀
 
 -- After row 0.
-first-so-far : (S : ℕ) (p : Patch) {grid : List ℕ} {lines : Lines} → OnRow p (gridStrides S) 0 lines →
-    length grid ≡ volume S → SoFar S p grid grid lines 0
-first-so-far S p o v = record { within = zero-le; on-row = o; marks = λ g e. e; size = v }
+first-so-far : (S : ℕ) (p : Patch) {grid : List ℕ} {lines : Lines} {new : ℕ} → OnRow p (gridStrides S) 0 lines →
+    length grid ≡ volume S → SoFar S p grid new grid lines new 0
+first-so-far S p o v = record { within = zero-le; on-row = o; marks = λ g e. e; size = v; fewer = refl }
 
 -- After the next row.
-next-so-far : (S : ℕ) (p : Patch) {grid₀ grid : List ℕ} {lines lines′ : Lines} {j : ℕ} → SoFar S p grid₀ grid lines j →
-    j < p .m → OnRow p (gridStrides S) (suc j) lines′ → {grid′ : List ℕ} →
-    grid′ ≡ marked (p .mark) (row-at S p (suc j)) grid → SoFar S p grid₀ grid′ lines′ (suc j)
-next-so-far S p {grid₀} {grid} {j = j} s l o e = record {
+next-so-far : (S : ℕ) (p : Patch) {grid₀ grid : List ℕ} {lines lines′ : Lines} {new₀ new j : ℕ} →
+    SoFar S p grid₀ new₀ grid lines new j → j < p .m → OnRow p (gridStrides S) (suc j) lines′ →
+    {grid′ : List ℕ} (more : ℕ) → grid′ ≡ marked (p .mark) (row-at S p (suc j)) grid →
+    more + unmarkedCells grid′ ≡ unmarkedCells grid → SoFar S p grid₀ new₀ grid′ lines′ (new + more) (suc j)
+next-so-far S p {grid₀} {grid} {j = j} s l o more e one = record {
   within = l;
   on-row = o;
   marks = λ g f.
       e ∙ ap (marked (p .mark) (row-at S p (suc j))) (s .marks g f) ∙
       sym (ap (λ ps. marked (p .mark) ps g) (one-row-more S p j) ∙ marked-append (p .mark) (places S p j) (row-at S p (suc j)) g);
   size = ap length e ∙ length-marked (p .mark) (row-at S p (suc j)) grid ∙ s .size;
+  fewer = omega (arith, one, s .fewer);
 }
 
 abbrev Inv-loop : tie.InvT-loop
-Inv-loop side patch grid₀ h scale mark lines₀ j₀ j-end grid lines j = SoFar side patch grid₀ grid lines j
+Inv-loop side patch grid₀ h scale mark lines₀ new₀ j₀ j-end grid lines new j = SoFar side patch grid₀ new₀ grid lines new j
 
 abbrev μ-loop : tie.MeasureT-loop
-μ-loop side patch grid₀ h scale mark lines₀ j₀ j-end grid lines j = patch .m - j
+μ-loop side patch grid₀ h scale mark lines₀ new₀ j₀ j-end grid lines new j = patch .m - j
 
 module _ (c : tie.Start Inv-loop μ-loop) where
   abbrev patch : Patch
@@ -70,6 +77,10 @@ module _ (c : tie.Start Inv-loop μ-loop) where
 
   volume-is : length (now (c .args .grid)) ≡ volume (c .args .side)
   volume-is = draw-accepted (c .args .side) (patchOf patch) _ .0 (c .pre) .1
+
+  -- What a row asks for besides its room.
+  row-small : (patch .n ≤ 512) × (1 ≤ patch .mark)
+  row-small = (omega (arith, limits .n-most), draw-accepted (c .args .side) (patchOf patch) _ .0 (c .pre) .2)
 
 -- The scale, as it is read back.
 scale-is : (c : tie.After-scale Inv-loop μ-loop) →
@@ -102,16 +113,18 @@ mark-row-requires : tie.Need-mark-row-requires Inv-loop μ-loop
 mark-row-requires c κs =
     let r = c .before in
     let b = r .before .before in
-    let s = b .before .before .before in
-    room-for-row (patch s) (limits s) (drawable s) (scale-is b) (b .before .grid-strides .ensures)
-    (start-lines-on (r .before)) (r .row .ensures) zero-le (volume-is s)
+    let s = b .before .before .before in (
+      room-for-row (patch s) (limits s) (drawable s) (scale-is b) (b .before .grid-strides .ensures)
+          (start-lines-on (r .before)) (r .row .ensures) zero-le (volume-is s),
+      row-small s,
+    )
 
 loop-holds : tie.Need-loop-holds Inv-loop μ-loop
 loop-holds c =
     let l = c .before .before .before .before .before in
     let s = l .before .before .before .before in
     first-so-far (s .args .side) (patch s) (start-lines-on l)
-    (ap length (c .before .before .mark-row .ensures) ∙ length-marked _ _ _ ∙ volume-is s)
+    (ap length (c .before .before .mark-row .ensures .1) ∙ length-marked _ _ _ ∙ volume-is s)
 
 -- In the loop.
 module _ (c : tie.In-loop Inv-loop μ-loop) where
@@ -145,10 +158,32 @@ row-requires-2 c κs = tt
 mark-row-requires-2 : tie.Need-mark-row-requires-2 Inv-loop μ-loop
 mark-row-requires-2 c κs =
     let i = c .before .before .before in
+    let s = start i in (
+      room-for-row (patch s) (limits s) (drawable s) (scale-is (base i)) (strides i)
+          (next-lines i (c .before .before .next .ensures)) (c .before .row2 .ensures) (before-last i)
+          (i .before .loop .inv .size),
+      row-small s,
+    )
+
+-- New cells are cells of the grid before row 0, at most 64 × 64 × 64.
+add-new-cells : tie.Need-add-new-cells Inv-loop μ-loop
+add-new-cells c =
+    let r = c .before .before in
+    let i = r .before .before .before .before in
+    let l = i .before in
+    let m = l .before .before .before in
     let s = start i in
-    room-for-row (patch s) (limits s) (drawable s) (scale-is (base i)) (strides i)
-    (next-lines i (c .before .before .next .ensures)) (c .before .row2 .ensures) (before-last i)
-    (i .before .loop .inv .size)
+    record {
+      fits = omega (
+        arith,
+        r .mark-row2 .ensures .0,
+        l .loop .inv .fewer,
+        m .mark-row .ensures .0,
+        unmarked-at-most (now (s .args .grid)),
+        volume-is s,
+        cube-grows (drawable s .side-most),
+      );
+    }
 
 add-j : tie.Need-add-j Inv-loop μ-loop
 add-j c =
@@ -165,9 +200,10 @@ loop-again c =
     let s = start i in
     let o = next-lines i (n .next .ensures) in
     rw add-one
-    (next-so-far (s .args .side) (patch s) (i .before .loop .inv) (before-last i) o
+    (next-so-far (s .args .side) (patch s) (i .before .loop .inv) (before-last i) o _
     (row-marks (patch s) (limits s) (drawable s) (scale-is (base i)) (strides i) o
-    (c .before .before .before .before .row2 .ensures) (before-last i) (i .before .loop .grid) (c .before .before .mark-row2 .ensures)))
+    (c .before .before .before .before .row2 .ensures) (before-last i) (i .before .loop .grid) (c .before .before .mark-row2 .ensures .1))
+    (c .before .before .mark-row2 .ensures .0))
 
 same-length : tie.Need-same-length Inv-loop μ-loop
 same-length c =
@@ -183,10 +219,12 @@ returns c =
     let l = c .before .loop in
     let last : l .j ≡ patch s .m = omega (arith, l .inv .within, c .loop-test .left) in
     let row0 = row-marks (patch s) (limits s) (drawable s) (scale-is b) (b .before .grid-strides .ensures)
-    (start-lines-on (r .before)) (r .row .ensures) zero-le (now (s .args .grid)) (m .mark-row .ensures) in
-    rw last at (l .inv .marks (now (s .args .grid))
-    (row0 ∙ ap (λ ps. marked (patch s .mark) ps (now (s .args .grid))) (sym (first-row (s .args .side) (patch s))))) ∙
-    sym (drawn-rows (s .args .side) (patch s) (now (s .args .grid)) (s .pre))
+    (start-lines-on (r .before)) (r .row .ensures) zero-le (now (s .args .grid)) (m .mark-row .ensures .1) in (
+      l .inv .fewer ∙ m .mark-row .ensures .0,
+      rw last at (l .inv .marks (now (s .args .grid))
+          (row0 ∙ ap (λ ps. marked (patch s .mark) ps (now (s .args .grid))) (sym (first-row (s .args .side) (patch s))))) ∙
+          sym (drawn-rows (s .args .side) (patch s) (now (s .args .grid)) (s .pre)),
+    )
 
 pub mark-rows-spec : {M : Type 1} → statement M
 mark-rows-spec =
@@ -203,6 +241,7 @@ mark-rows-spec =
     next-requires
     row-requires-2
     mark-row-requires-2
+    add-new-cells
     add-j
     loop-less
     loop-again

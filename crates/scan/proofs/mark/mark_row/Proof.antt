@@ -1,18 +1,23 @@
--- `mark_row` meets its contract: after i steps the grid has the marks of the first i + 1 walkers' places.
+-- `mark_row` meets its contract: after i steps the grid has the marks of the first i + 1 walkers' places, and has lost as
+-- many unmarked cells as are counted.
 use borrow.Author.Needs.{needs}
 use denote.Ref.{now}
-use mathlib.Core.Path.{_≡_, refl, sym}
+use mathlib.Core.Path.{_≡_, refl, sym, _∙_, ap}
+use mathlib.Core.Bool.{Bool, true, false, cond}
 use mathlib.Core.List.{List, map, map-append}
-use Prim.Native.Nat.{ℕ, suc, _<_, _-_}
+use Prim.Native.Nat.{ℕ, suc, _+_, _≤_, _<_, _-_}
 use native.Mathlib.Numerals.{add-one}
 use native.Mathlib.Omega.{arith}
+use lib.Dec.{eqb}
 use lib.IntN.{ℤ}
-use lib.ListN.{length, set, length-set}
+use lib.ListN.{length, getD, set, length-set}
 use mir.Syntax.{w64}
-use mir.Val.{toZ}
+use mir.Val.{toZ, boolByte}
 use mir.Facts.{toZ-ofZ}
 use Rattle.drawing.specs.Drawing.{marked}
+use Rattle.drawing.specs.NewCells.{unmarkedCells}
 use Rattle.drawing.proofs.Marked.{marked-append}
+use Rattle.drawing.proofs.NewCells.{unmarked-set}
 use Rattle.scan.specs.declared.walker.Walker.{Walker}
 use Rattle.scan.specs.declared.walker.Strides.{Strides}
 use Rattle.scan.specs.Walker.{stepAll, HasPlace, placeOf, walkers, OnGrid}
@@ -20,31 +25,47 @@ use Rattle.scan.proofs.Row.{AfterSteps, no-steps, holds-now, room-now, 
 use Rattle.scan.proofs.mark.mark_row.Statement.{statement}
 use Rattle.scan.proofs.mark.mark_row.Tie as tie
 
--- The row so far, where grid₀ has the mark of its first walker.
-record SoFar (scale : ℤ) (h : Strides) (mark : ℕ) (w₀ : Walker) (grid₀ : List ℕ) (n i : ℕ) (w : Walker)
-    (grid : List ℕ) : Type 0 where
+-- Whether a cell was unmarked, as the number that is added.
+counted : (b : Bool) → (boolByte b ≡ cond b 1 0) × (boolByte b ≤ 1)
+counted true = (refl, omega arith)
+counted false = (refl, omega arith)
+
+-- The row so far, where grid₀ has the mark of its first walker and new₀ counts that cell if it was unmarked.
+record SoFar (scale : ℤ) (h : Strides) (mark : ℕ) (w₀ : Walker) (grid₀ : List ℕ) (new₀ n i : ℕ) (w : Walker)
+    (grid : List ℕ) (new : ℕ) : Type 0 where
   pub steps : AfterSteps scale h w₀ n i w
   pub room : OnGrid n scale h w₀ (length grid)
   pub marks : (g : List ℕ) → grid₀ ≡ set g (placeOf w₀) mark → grid ≡ marked mark (map placeOf (walkers i scale h w₀)) g
   pub size : length grid ≡ length grid₀
+  pub fewer : new + unmarkedCells grid ≡ new₀ + unmarkedCells grid₀
+  pub few : new ≤ 1 + i
+
+-- A mark at a place, and what it adds to the count.
+module _ (mark : ℕ) (h : 1 ≤ mark) (grid : List ℕ) (p : ℕ) (l : p < length grid) where
+  one-more : (b : Bool) → b ≡ eqb (getD grid p 0) 0 → boolByte b + unmarkedCells (set grid p mark) ≡ unmarkedCells grid
+  one-more b e = ap (_+ unmarkedCells (set grid p mark)) (counted b .0 ∙ ap (λ t. cond t 1 0) e) ∙ unmarked-set mark h grid p l
 
 module _ (scale : ℤ) (h : Strides) (mark : ℕ) (w₀ : Walker) where
   -- With the first mark.
-  first : {n : ℕ} (g : List ℕ) → OnGrid n scale h w₀ (length g) →
-      SoFar scale h mark w₀ (set g (placeOf w₀) mark) n 0 w₀ (set g (placeOf w₀) mark)
+  first : {n : ℕ} (g : List ℕ) (b : Bool) → OnGrid n scale h w₀ (length g) →
+      SoFar scale h mark w₀ (set g (placeOf w₀) mark) (boolByte b) n 0 w₀ (set g (placeOf w₀) mark) (boolByte b)
   unfolding walkers marked
-  first {n} g r = record {
+  first {n} g b r = record {
     steps = no-steps scale h w₀ n;
     room = rw length-set r;
     marks = λ g′ e. e;
     size = refl;
+    fewer = refl;
+    few = omega (arith, counted b .1);
   }
 
   -- With the mark of the next step's place.
-  next : {n i : ℕ} {w w′ : Walker} {grid₀ grid : List ℕ} → SoFar scale h mark w₀ grid₀ n i w grid → i < n →
-      w′ ≡ stepAll scale h w → SoFar scale h mark w₀ grid₀ n (suc i) w′ (set grid (placeOf w′) mark)
+  next : {n i new₀ new : ℕ} {w w′ : Walker} {grid₀ grid : List ℕ} (b : Bool) →
+      SoFar scale h mark w₀ grid₀ new₀ n i w grid new → i < n → w′ ≡ stepAll scale h w →
+      boolByte b + unmarkedCells (set grid (placeOf w′) mark) ≡ unmarkedCells grid →
+      SoFar scale h mark w₀ grid₀ new₀ n (suc i) w′ (set grid (placeOf w′) mark) (new + boolByte b)
   unfolding walkers marked
-  next {i} s l e =
+  next {i} b s l e one =
       let more = step-more (s .steps) l e in
       record {
         steps = more;
@@ -53,6 +74,8 @@ module _ (scale : ℤ) (h : Strides) (mark : ℕ) (w₀ : Walker) where
             rw (s .marks g f, more .walker, map-append)
             (sym (marked-append mark (map placeOf (walkers i scale h w₀)) _ g));
         size = rw length-set (s .size);
+        fewer = omega (arith, one, s .fewer);
+        few = omega (arith, counted b .1, s .few);
       }
 
 -- The present place is a byte of the grid.
@@ -65,22 +88,26 @@ module _ {scale : ℤ} {h : Strides} {n i len : ℕ} {w₀ w : Walker} (r : OnGr
   byte = holds-now s (λ v. placeOf v < len) (r .bytes)
 
 abbrev Inv-loop : tie.InvT-loop
-Inv-loop n scale h mark grid₀ w₀ i₀ grid w i = SoFar (toZ w64 scale) h mark w₀ grid₀ n i w grid
+Inv-loop n scale h mark grid₀ w₀ new₀ i₀ grid w new i = SoFar (toZ w64 scale) h mark w₀ grid₀ new₀ n i w grid new
 
 abbrev μ-loop : tie.MeasureT-loop
-μ-loop n scale h mark grid₀ w₀ i₀ grid w i = n - i
+μ-loop n scale h mark grid₀ w₀ new₀ i₀ grid w new i = n - i
 
 place-requires : tie.Need-place-requires Inv-loop μ-loop
-place-requires c κs = has-place (c .before .before .pre) (no-steps _ _ _ _)
+place-requires c κs = has-place (c .before .before .pre .0) (no-steps _ _ _ _)
 
 mark-cell-requires : tie.Need-mark-cell-requires Inv-loop μ-loop
-mark-cell-requires c κs = rw (c .place .ensures) (byte (c .before .before .before .pre) (no-steps _ _ _ _))
+mark-cell-requires c κs = rw (c .place .ensures) (byte (c .before .before .before .pre .0) (no-steps _ _ _ _))
+
+cast-new-cells : tie.Need-cast-new-cells Inv-loop μ-loop
+cast-new-cells c = search needs
 
 loop-holds : tie.Need-loop-holds Inv-loop μ-loop
 loop-holds c =
     let s = c .before .before .before .before .before .before in
-    rw (toZ-ofZ (s .fits .scale), c .before .before .mark-cell .ensures, c .before .before .before .place .ensures)
-    (first (s .args .scale) (s .args .h) (s .args .mark) (s .args .start) (now (s .args .grid)) (s .pre))
+    rw (toZ-ofZ (s .fits .scale), c .before .before .mark-cell .ensures .1, c .before .before .before .place .ensures)
+    (first (s .args .scale) (s .args .h) (s .args .mark) (s .args .start) (now (s .args .grid)) (c .before .before .mark-cell .result)
+    (s .pre .0))
 
 step-requires : tie.Need-step-requires Inv-loop μ-loop
 step-requires c κs = let l = c .before .loop .inv in room-now (l .steps) (l .room .steps) (c .loop-test .taken)
@@ -96,6 +123,16 @@ mark-cell-requires-2 c κs =
     let l = b .before .before .loop .inv in
     rw (c .place2 .ensures) (byte (l .room) (step-more (l .steps) (b .before .loop-test .taken) (b .step .ensures)))
 
+cast-new-cells-2 : tie.Need-cast-new-cells-2 Inv-loop μ-loop
+cast-new-cells-2 c = search needs
+
+add-new-cells : tie.Need-add-new-cells Inv-loop μ-loop
+add-new-cells c =
+    let m = c .before .before in
+    let l = m .before .before .before .before .before in
+    let s = l .before .before .before .before .before .before .before in
+    record { fits = omega (arith, counted (m .mark-cell2 .result) .1, l .loop .inv .few, l .loop .inv .steps .within, s .pre .1 .0) }
+
 add-i : tie.Need-add-i Inv-loop μ-loop
 add-i c = search needs
 
@@ -104,9 +141,15 @@ loop-less c = search needs
 
 loop-again : tie.Need-loop-again Inv-loop μ-loop
 loop-again c =
-    let b = c .before .before .before .before .before in
-    rw (add-one, c .before .before .mark-cell2 .ensures, c .before .before .before .place2 .ensures)
-    (next _ _ _ _ (b .before .before .loop .inv) (b .before .loop-test .taken) (b .step .ensures))
+    let m = c .before .before in
+    let b = m .before .before .before in
+    let l = b .before .before in
+    let s = l .before .before .before .before .before .before .before in
+    let p = m .before .place2 .ensures in
+    let there = byte (l .loop .inv .room) (step-more (l .loop .inv .steps) (b .before .loop-test .taken) (b .step .ensures)) in
+    rw (add-one, m .mark-cell2 .ensures .1, p)
+    (next _ _ _ _ (m .mark-cell2 .result) (l .loop .inv) (b .before .loop-test .taken) (b .step .ensures)
+    (one-more (s .args .mark) (s .pre .1 .1) (l .loop .grid) _ there (m .mark-cell2 .result) (rw p at (m .mark-cell2 .ensures .0))))
 
 same-length : tie.Need-same-length Inv-loop μ-loop
 same-length c = let size = c .before .loop .inv .size in search needs
@@ -116,7 +159,13 @@ returns c =
     let s = c .before .before .before .before .before .before .before .before in
     let l = c .before .loop in
     let e : l .i ≡ s .args .n = omega (arith, l .inv .steps .within) in
-    rw (toZ-ofZ (s .fits .scale), e) at (l .inv .marks (now (s .args .grid)) (cc))
+    let m = c .before .before .before .before in
+    let p = m .before .place .ensures in
+    let one = one-more (s .args .mark) (s .pre .1 .1) (now (s .args .grid)) _ (byte (s .pre .0) (no-steps _ _ _ _)) (m .mark-cell .result)
+    (rw p at (m .mark-cell .ensures .0)) in (
+      l .inv .fewer ∙ rw (m .mark-cell .ensures .1, p) one,
+      rw (toZ-ofZ (s .fits .scale), e) at (l .inv .marks (now (s .args .grid)) (cc)),
+    )
 
 pub mark-row-spec : {M : Type 1} → statement M
 mark-row-spec =
@@ -126,10 +175,13 @@ mark-row-spec =
     μ-loop
     place-requires
     mark-cell-requires
+    cast-new-cells
     loop-holds
     step-requires
     place-requires-2
     mark-cell-requires-2
+    cast-new-cells-2
+    add-new-cells
     add-i
     loop-less
     loop-again
