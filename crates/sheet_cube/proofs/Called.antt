@@ -16,12 +16,13 @@ use Rattle.drawing.proofs.Drawn.{length-drawn}
 use Rattle.sheet.specs.Sheet.{Stroke, objectOf, Judged, good, bad, judge}
 use Rattle.sheet.specs.Printed.{cubeOf}
 use Rattle.sheet.proofs.Sheet.{bad-small}
-use Rattle.sheet.specs.Call.{judgeCall, Said, drew, refused, said, bufferAfter}
-use Rattle.sheet_cube.specs.declared.Size.{Size}
+use Rattle.sheet.specs.Call.{judgeCall, newCellsOf, Said, drew, refused, said, bufferAfter}
+use Rattle.sheet_cube.specs.declared.judge.Size.{Size}
 use Rattle.sheet_cube.specs.declared.Refusal.{Refusal}
 use Rattle.sheet_cube.specs.declared.Answer.{Answer}
 use Rattle.sheet_cube.specs.declared.Answer.the-variants as answer
 use Rattle.sheet_cube.specs.Answer.{saidOf, DrawsSheet}
+use Rattle.sheet_cube.specs.Lines.{Found, sized, fault, found}
 use Rattle.sheet_cube.proofs.Judged.{good≢bad}
 use Rattle.sheet_cube.proofs.Drawing.{is-good, GoodSheet, good-sheet, whole-buffer}
 
@@ -47,33 +48,48 @@ module _ (input buffer : List ℕ) where
   buffer-bad n = simp (ne-eqb (length buffer) 64000 n)
 
 -- An accepted call.
-pub record Accepted (input bufferNow : List ℕ) (S n : ℕ) : Type 0 where
+pub record Accepted (input bufferNow : List ℕ) (S n new : ℕ) : Type 0 where
   pub strokes : List Stroke
   pub judged : judge input ≡ good S strokes
   pub count : length strokes ≡ n
+  pub sum : newCellsOf S strokes ≡ new
   pub cube : take (volume S) bufferNow ≡ cubeOf S strokes
 
-abbrev numberOf : Said → ℕ
-numberOf (drew S n) = 0
-numberOf (refused n k) = n
+abbrev numberOf : Found → ℕ
+numberOf (sized S n) = 0
+numberOf (fault n k) = n
 
-abbrev lineOf : Said → ℕ
-lineOf (drew S n) = 0
-lineOf (refused n k) = k
+abbrev lineOf : Found → ℕ
+lineOf (sized S n) = 0
+lineOf (fault n k) = k
 
-abbrev isRefused : Said → Type 0
-isRefused (drew S n) = ⊥
-isRefused (refused n k) = Unit
+abbrev isFault : Found → Type 0
+isFault (sized S n) = ⊥
+isFault (fault n k) = Unit
 
--- A sheet that is answered a number and a line is bad, with both.
-pub is-bad : (j : Judged) {n k : ℕ} → said j ≡ refused n k → j ≡ bad n k
-is-bad (good S strokes) e = absurd (subst isRefused (sym e) tt)
+-- A sheet that is found to have a fault is bad, with its number and line.
+pub is-bad : (j : Judged) {n k : ℕ} → found j ≡ fault n k → j ≡ bad n k
+is-bad (good S strokes) e = absurd (subst isFault (sym e) tt)
 is-bad (bad n k) e = ap (λ s. bad (numberOf s) (lineOf s)) e
 
+-- What a call says of a sheet says what is found of it.
+abbrev foundBy : Said → Found
+foundBy (drew S n new) = sized S n
+foundBy (refused n k) = fault n k
+
+pub found-said : (j : Judged) {s : Said} → said j ≡ s → found j ≡ foundBy s
+found-said (good S strokes) e = ap foundBy e
+found-said (bad n k) e = ap foundBy e
+
+-- The sum that a call says.
+abbrev newOf : Said → ℕ
+newOf (drew S n new) = new
+newOf (refused n k) = 0
+
 module _ {input buffer bufferNow : List ℕ} {r : Answer} (d : DrawsSheet input buffer bufferNow r) where
-  pub called-accepted : {S n : ℕ} → saidOf r ≡ drew S n → Accepted input bufferNow S n
+  pub called-accepted : {S n new : ℕ} → saidOf r ≡ drew S n new → Accepted input bufferNow S n new
   called-accepted {S} e =
-      let g = is-good (judgeCall input buffer) (sym (d .answer) ∙ e) in
+      let g = is-good (judgeCall input buffer) (found-said (judgeCall input buffer) (sym (d .answer) ∙ e)) in
       record {
         strokes = g .strokes;
         judged =
@@ -81,19 +97,20 @@ module _ {input buffer bufferNow : List ℕ} {r : Answer} (d : DrawsSheet input 
             (λ f. absurd (good≢bad (sym (g .good) ∙ buffer-bad input buffer (λ q. f (equal (length buffer) 64000 .1 q)))))
             (decided (eqb (length buffer) 64000));
         count = g .count;
+        sum = ap (λ j. newOf (said j)) (sym (g .good)) ∙ ap newOf (sym (d .answer) ∙ e);
         cube =
             ap (take (volume S)) (d .leaves ∙ ap (λ j. bufferAfter j buffer) (g .good)) ∙
             take-at (cubeOf S (g .strokes)) (drop (volume S) buffer) (volume S) (length-cube S (g .strokes));
       }
 
   -- Its side.
-  pub side-most : {S n : ℕ} → saidOf r ≡ drew S n → S ≤ 40
-  side-most e = let a = called-accepted e in good-sheet input (ap said (a .judged)) .side-most
+  pub side-most : {S n new : ℕ} → saidOf r ≡ drew S n new → S ≤ 40
+  side-most e = let a = called-accepted e in good-sheet input (ap found (a .judged)) .side-most
 
   -- The line of a refused one.
   pub line-most : {n k : ℕ} → saidOf r ≡ refused n k → k ≤ 202
   line-most {k = k} e =
-      let j = is-bad (judgeCall input buffer) (sym (d .answer) ∙ e) in
+      let j = is-bad (judgeCall input buffer) (found-said (judgeCall input buffer) (sym (d .answer) ∙ e)) in
       ⊎-elim
       (λ t. bad-small input (sym (buffer-good input buffer (equal (length buffer) 64000 .0 t)) ∙ j) .1)
       (λ f.
@@ -109,14 +126,14 @@ buffer-call input buffer n =
 
 module _ (input buffer : List ℕ) (h : length buffer ≡ 64000) where
   -- for a refused sheet,
-  pub refused-call : (r : Refusal) → said (judge input) ≡ refused (r .number) (r .line) →
+  pub refused-call : (r : Refusal) → found (judge input) ≡ fault (r .number) (r .line) →
       DrawsSheet input buffer buffer (answer.Refused r)
   refused-call r e =
       let j = sym (is-bad (judge input) e) ∙ sym (buffer-good input buffer h) in
       record { answer = ap said j; leaves = ap (λ v. bufferAfter v buffer) j }
 
   -- and for a good one, whose cube is drawn in the front of the buffer.
-  module _ (s : Size) (e : said (judge input) ≡ drew (s .side) (s .curves)) where
+  module _ (s : Size) (e : found (judge input) ≡ sized (s .side) (s .curves)) where
     abbrev sheet : GoodSheet input (s .side) (s .curves)
     sheet = good-sheet input e
 
@@ -124,12 +141,14 @@ module _ (input buffer : List ℕ) (h : length buffer ≡ 64000) where
     cube-there =
         let m = sheet .side-most in omega (arith, h, mul-le-mul (mul-le-mul m m) m)
 
-    pub drawn-call : (cube : List ℕ) → cube ≡ bufferAfter (judge input) (take (volume (s .side)) buffer) →
-        DrawsSheet input buffer (cube ++ drop (volume (s .side)) buffer) (answer.Drawn s)
-    drawn-call cube d =
+    pub drawn-call : (cube : List ℕ) {new : ℕ} → cube ≡ bufferAfter (judge input) (take (volume (s .side)) buffer) →
+        said (judge input) ≡ drew (s .side) (s .curves) new →
+        DrawsSheet input buffer (cube ++ drop (volume (s .side)) buffer)
+        (answer.Drawn (record { side = s .side; curves = s .curves; «new_cells» = new }))
+    drawn-call cube d n =
         let j = sym (sheet .judged) ∙ sym (buffer-good input buffer h) in
         record {
-          answer = sym e ∙ ap said (sym (buffer-good input buffer h));
+          answer = sym n ∙ ap said (sym (buffer-good input buffer h));
           leaves =
               ap (_++ drop (volume (s .side)) buffer)
               (d ∙ sym (whole-buffer sheet (take (volume (s .side)) buffer) (length-take-le (volume (s .side)) buffer cube-there))) ∙

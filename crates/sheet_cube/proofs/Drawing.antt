@@ -1,7 +1,9 @@
--- The drawing of a good sheet: what is left to draw, drawn into the cube so far, gives the sheet's cube.
-use mathlib.Core.Path.{_≡_, refl, sym, _∙_, ap, subst}
+-- The drawing of a good sheet: what is left to draw, drawn into the cube so far, gives the sheet's cube, and its new cells
+-- with those counted so far the sheet's sum.
+use mathlib.Core.Path.{_≡_, refl, sym, _∙_, ap, ap₂, subst}
 use mathlib.Core.List.{List, [], _∷_, _++_, map, append-nil}
 use Prim.Native.Nat.{ℕ, suc, _+_, _*_, _≤_, _<_}
+use native.Mathlib.Nat.{zero-add, add-zero}
 use native.Mathlib.Omega.{arith}
 use lib.ListN.{length, take, drop, length-drop, drop-of-length-le, replicate, length-replicate}
 use lib.Seq.{drop-drop}
@@ -9,37 +11,40 @@ use Rattle.decide.specs.Refusal.{accepted, firstThat}
 use Rattle.decide.proofs.Refusal.{by-verdict}
 use Rattle.cube.specs.Cube.{volume}
 use Rattle.drawing.specs.Drawing.{drawn, inTurn}
+use Rattle.drawing.specs.NewCells.{unmarkedCells, newInTurn}
 use Rattle.drawing.proofs.Drawn.{length-drawn}
+use Rattle.drawing.proofs.NewCells.{unmarked-cleared, new-of, drawn-at-most, turns-new}
 use Rattle.sheet.specs.Line.{lines, number}
 use Rattle.sheet.specs.Sheet.{Stroke, strokeOf, objectOf, sideOrder, curveOrder, Judged, good, bad, judgeCurves, judge}
 use Rattle.sheet.specs.Printed.{cubeOf}
-use Rattle.sheet.specs.Call.{Said, drew, refused, said, bufferAfter}
+use Rattle.sheet.specs.Call.{newCellsOf, drew, said, bufferAfter}
 use Rattle.sheet_lines.specs.Read.{firstLine}
+use Rattle.sheet_cube.specs.Lines.{Found, sized, fault, found}
 use Rattle.sheet_cube.proofs.Judged.{Passes, passes, passes-side, side-refused, side-accepted, strokesOf, Left, good-first, good-all, good≢bad}
 use Rattle.sheet_cube.proofs.Judged.{by-emptiness, rest-lines, left-start, left-more, line-within}
 use Rattle.sheet_lines.proofs.Lines.{first-prefix}
 
--- A sheet that is answered a side and a number of curve lines is good, of that side and with so many strokes.
+-- A sheet that is found to have a side and a number of curve lines is good, of that side and with so many strokes.
 pub record IsGood (j : Judged) (S n : ℕ) : Type 0 where
   pub strokes : List Stroke
   pub good : j ≡ good S strokes
   pub count : length strokes ≡ n
 
-abbrev sideOf : Said → ℕ
-sideOf (drew S n) = S
-sideOf (refused n k) = 0
+abbrev sideOf : Found → ℕ
+sideOf (sized S n) = S
+sideOf (fault n k) = 0
 
-abbrev curvesOf : Said → ℕ
-curvesOf (drew S n) = n
-curvesOf (refused n k) = 0
+abbrev curvesOf : Found → ℕ
+curvesOf (sized S n) = n
+curvesOf (fault n k) = 0
 
-abbrev isDrew : Said → Type 0
-isDrew (drew S n) = Unit
-isDrew (refused n k) = ⊥
+abbrev isSized : Found → Type 0
+isSized (sized S n) = Unit
+isSized (fault n k) = ⊥
 
-pub is-good : (j : Judged) {S n : ℕ} → said j ≡ drew S n → IsGood j S n
+pub is-good : (j : Judged) {S n : ℕ} → found j ≡ sized S n → IsGood j S n
 is-good (good R l) e = record { strokes = l; good = ap (λ s. good (sideOf s) l) e; count = ap curvesOf e }
-is-good (bad n k) e = absurd (subst isDrew (sym e) tt)
+is-good (bad n k) e = absurd (subst isSized (sym e) tt)
 
 abbrev sideIn : Judged → ℕ
 sideIn (good S l) = S
@@ -67,7 +72,7 @@ pub record GoodSheet (input : List ℕ) (S n : ℕ) : Type 0 where
   pub left : Left input S 6 2
   pub count : length (strokesOf input) ≡ n
 
-pub good-sheet : (input : List ℕ) {S n : ℕ} → said (judge input) ≡ drew S n → GoodSheet input S n
+pub good-sheet : (input : List ℕ) {S n : ℕ} → found (judge input) ≡ sized S n → GoodSheet input S n
 good-sheet input {S} {n} e =
     let g = is-good (judge input) e in
     by-verdict (firstThat (sideOrder (firstLine input))) (GoodSheet input S n)
@@ -107,7 +112,7 @@ module _ (P : Stroke → Type 0) (S : ℕ)
 
   pub good-strokes : (input : List ℕ) {strokes : List Stroke} → judge input ≡ good S strokes → Each P strokes
   good-strokes input {strokes} e =
-      let g = good-sheet input (ap said e) in
+      let g = good-sheet input (ap found e) in
       let these : strokesOf input ≡ strokes = ap strokesIn (sym (g .judged) ∙ e) in
       subst (Each P) these (good-curves 2 _ (lines (drop 6 input)) (sym (g .left .judged) ∙ e))
 
@@ -115,28 +120,51 @@ module _ (P : Stroke → Type 0) (S : ℕ)
 abbrev pub rest : (input : List ℕ) (i : ℕ) → List ℕ
 rest input i = drop (6 + 71 * i) input
 
--- With i curve lines drawn: the cube, and what is left to draw.
-pub record DrawnSoFar (input : List ℕ) (S i : ℕ) (cube : List ℕ) : Type 0 where
+-- With i curve lines drawn: the cube and the sum of new cells, and what is left to draw.
+pub record DrawnSoFar (input : List ℕ) (S i : ℕ) (cube : List ℕ) (new : ℕ) : Type 0 where
   pub left : Left input S (6 + 71 * i) (i + 2)
   pub turn :
       inTurn (λ s. drawn S (objectOf s)) (map strokeOf (lines (rest input i))) cube ≡ cubeOf S (strokesOf input)
+  pub sum :
+      new + newInTurn (λ s. drawn S (objectOf s)) (map strokeOf (lines (rest input i))) cube ≡ newCellsOf S (strokesOf input)
   pub whole : length cube ≡ volume S
 
+-- A sheet's new cells are cells of its cube.
+new-at-most : (S : ℕ) (strokes : List Stroke) → newCellsOf S strokes ≤ volume S
+unfolding newCellsOf
+new-at-most S strokes =
+    omega (
+      arith,
+      turns-new (λ s. drawn S (objectOf s)) (λ s. drawn-at-most S (objectOf s)) strokes (replicate (volume S) 0),
+      unmarked-cleared (volume S),
+    )
+
 module _ {input : List ℕ} {S n : ℕ} (sheet : GoodSheet input S n) where
-  pub none-drawn : (cube : List ℕ) → length cube ≡ volume S → DrawnSoFar input S 0 (replicate (length cube) 0)
-  unfolding cubeOf
+  pub none-drawn : (cube : List ℕ) → length cube ≡ volume S → DrawnSoFar input S 0 (replicate (length cube) 0) 0
+  unfolding cubeOf newCellsOf
   none-drawn cube e = record {
     left = sheet .left;
     turn = ap (λ v. inTurn (λ s. drawn S (objectOf s)) (strokesOf input) (replicate v 0)) e;
+    sum = zero-add _ ∙ ap (λ v. newInTurn (λ s. drawn S (objectOf s)) (strokesOf input) (replicate v 0)) e;
     whole = length-replicate _ 0 ∙ e;
   }
 
   -- All are drawn.
-  pub all-drawn : {cube : List ℕ} → DrawnSoFar input S n cube → cube ≡ cubeOf S (strokesOf input)
-  unfolding inTurn
-  all-drawn d =
-      let l : length (lines (rest input n)) ≡ 0 = omega (arith, d .left .count, sheet .count) in
-      rw (empty (lines (rest input n)) l) at (d .turn)
+  module _ {cube : List ℕ} {new : ℕ} (d : DrawnSoFar input S n cube new) where
+    none-left : lines (rest input n) ≡ []
+    none-left =
+        let l : length (lines (rest input n)) ≡ 0 = omega (arith, d .left .count, sheet .count) in
+        empty (lines (rest input n)) l
+
+    pub all-drawn : cube ≡ cubeOf S (strokesOf input)
+    unfolding inTurn
+    all-drawn = rw none-left at (d .turn)
+
+    pub all-counted : said (judge input) ≡ drew S n new
+    unfolding newInTurn
+    all-counted =
+        let all : new + 0 ≡ newCellsOf S (strokesOf input) = rw none-left at (d .sum) in
+        ap said (sheet .judged) ∙ ap₂ (drew S) (sheet .count) (sym all ∙ add-zero new)
 
   -- A buffer that is the cube alone holds nothing else afterwards.
   pub whole-buffer : (cube : List ℕ) → length cube ≡ volume S → cubeOf S (strokesOf input) ≡ bufferAfter (judge input) cube
@@ -149,7 +177,7 @@ module _ {input : List ℕ} {S n : ℕ} (sheet : GoodSheet input S n) where
       fits e = omega (arith, e)
 
   -- One more to draw.
-  module _ {i : ℕ} (h : i < n) {cube : List ℕ} (d : DrawnSoFar input S i cube) where
+  module _ {i : ℕ} (h : i < n) {cube : List ℕ} {new : ℕ} (d : DrawnSoFar input S i cube new) where
     abbrev pub line : List ℕ
     line = firstLine (rest input i)
 
@@ -178,15 +206,32 @@ module _ {input : List ℕ} {S n : ℕ} (sheet : GoodSheet input S n) where
     pub line-ends : 6 + 71 * i + 71 ≤ length input
     line-ends = line-within input S (d .left) at-line line-accepted
 
-    -- It is drawn.
-    pub one-more : DrawnSoFar input S (suc i) (drawn S (objectOf (strokeOf line)) cube)
-    unfolding inTurn
-    one-more =
+    two : lines (rest input i) ≡ line ∷ lines (rest input (suc i))
+    two =
         let after : drop (length line) (rest input i) ≡ rest input (suc i) =
         ap (λ k. drop k (rest input i)) (line-passes .whole) ∙ drop-drop 71 (6 + 71 * i) input ∙ ap (λ k. drop k input) (at-next i) in
-        let two : lines (rest input i) ≡ line ∷ lines (rest input (suc i)) = rw (← after) (rest-lines (rest input i) rest-there) in
-        record {
-          left = rw (← at-next i, ← line-next i) (left-more input S (d .left) at-line line-accepted);
-          turn = rw two at (d .turn);
-          whole = length-drawn S (objectOf (strokeOf line)) cube ∙ d .whole;
-        }
+        rw (← after) (rest-lines (rest input i) rest-there)
+
+    -- It is drawn, and its new cells are counted.
+    module _ (more : ℕ) (fewer : more + unmarkedCells (drawn S (objectOf (strokeOf line)) cube) ≡ unmarkedCells cube) where
+      sum-more :
+          new + more +
+          newInTurn (λ s. drawn S (objectOf s)) (map strokeOf (lines (rest input (suc i)))) (drawn S (objectOf (strokeOf line)) cube)
+          ≡ newCellsOf S (strokesOf input)
+      unfolding newInTurn
+      sum-more =
+          let all = rw two at (d .sum) in
+          omega (arith, all, new-of cube (drawn S (objectOf (strokeOf line)) cube) fewer)
+
+      -- The sum is a number of cells of the cube.
+      pub sum-at-most : new + more ≤ volume S
+      sum-at-most = omega (arith, sum-more, new-at-most S (strokesOf input))
+
+      pub one-more : DrawnSoFar input S (suc i) (drawn S (objectOf (strokeOf line)) cube) (new + more)
+      unfolding inTurn
+      one-more = record {
+        left = rw (← at-next i, ← line-next i) (left-more input S (d .left) at-line line-accepted);
+        turn = rw two at (d .turn);
+        sum = sum-more;
+        whole = length-drawn S (objectOf (strokeOf line)) cube ∙ d .whole;
+      }

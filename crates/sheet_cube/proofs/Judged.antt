@@ -19,10 +19,10 @@ use Rattle.drawing.proofs.Accepted.{order-accepted, draw-accepted}
 use Rattle.sheet.specs.Line.{lines, isWrong, number, someBad}
 use Rattle.sheet.specs.Sheet.{Stroke, strokeOf, objectOf, sideOrder, markOut, curveOrder, Judged, good, bad, orLater, judgeCurves, judgeLines}
 use Rattle.sheet.specs.Sheet.{judge}
-use Rattle.sheet.specs.Call.{drew, said}
 use Rattle.sheet_lines.specs.Read.{firstLine, fits}
 use Rattle.sheet_lines.proofs.Lines.{lines-first, first-within, line-length}
 use Rattle.sheet_lines.proofs.Fits.{points-at}
+use Rattle.sheet_cube.specs.Lines.{sized, found}
 
 -- What an accepted curve line passes.
 pub record Passes (S k : ℕ) (l : List ℕ) : Type 0 where
@@ -182,12 +182,12 @@ module _ (input : List ℕ) (S : ℕ) where
     rest = drop at input
 
     -- Nothing is left: the sheet is good.
-    pub left-none : length input ≤ at → said (judge input) ≡ drew S (k - 2)
+    pub left-none : length input ≤ at → found (judge input) ≡ sized S (k - 2)
     unfolding judgeCurves lines
     left-none h =
         let none : rest ≡ [] = drop-of-length-le input h in
         let n : length (strokesOf input) + 2 ≡ k = left .count ∙ rw none (omega arith) in
-        ap said (left .judged) ∙ rw none (ap (drew S) (omega (arith, n)))
+        ap found (left .judged) ∙ rw none (ap (sized S) (omega (arith, n)))
 
     module _ (h : at < length input) where
       abbrev line : List ℕ

@@ -9,7 +9,7 @@ use Rattle.sheet_cube.specs.Answer.{saidOf, DrawsSheet}
 
 -- The answer that says this.
 abbrev saying : Said → Answer
-saying (drew S n) = answer.Drawn (record { side = S; curves = n })
+saying (drew S n new) = answer.Drawn (record { side = S; curves = n; «new_cells» = new })
 saying (refused n k) = answer.Refused (record { number = n; line = k })
 
 saying-said : (r : Answer) → saying (saidOf r) ≡ r

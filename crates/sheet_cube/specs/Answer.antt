@@ -6,9 +6,9 @@ use Rattle.sheet.specs.Call.{judgeCall, Said, drew, refused, said, bufferAfter}
 use Rattle.sheet_cube.specs.declared.Answer.{Answer}
 use Rattle.sheet_cube.specs.declared.Answer.the-variants as answer
 
--- The side and the number of curve lines, or the number and the line.
+-- The side, the number of curve lines and the sum of their new cells, or the number and the line.
 abbrev pub saidOf : Answer → Said
-saidOf (answer.Drawn s) = drew (s .side) (s .curves)
+saidOf (answer.Drawn s) = drew (s .side) (s .curves) (s .«new_cells»)
 saidOf (answer.Refused r) = refused (r .number) (r .line)
 
 -- A sheet call: its answer, and what the buffer holds afterwards.

@@ -5,18 +5,26 @@ ghost use Rattle.decide.specs.Refusal.{accepted, firstThat};
 ghost use Rattle.decide.specs.Verdict.{verdictOf};
 ghost use Rattle.sheet.specs.Line.{number};
 ghost use Rattle.sheet.specs.Sheet.{sideOrder, curveOrder, judge};
-ghost use Rattle.sheet.specs.Call.{said};
 ghost use Rattle.sheet_lines.specs.Read.{firstLine};
-ghost use Rattle.sheet_cube.specs.Answer.{saidOf};
-ghost use Rattle.sheet_cube.specs.Lines.{SideOf};
-use crate::Answer;
+ghost use Rattle.sheet_cube.specs.Lines.{found, foundOf, SideOf};
 use crate::Refusal;
-use crate::Size;
 use decide::Verdict;
 use sheet_lines::line::is_line;
 use sheet_lines::line::number_at;
 use sheet_lines::line::read_curve;
 use sheet_lines::line::refusal_of;
+
+// The side of a sheet's cube and the number of its curve lines.
+pub(crate) struct Size {
+    pub side: u32,
+    pub curves: u32,
+}
+
+// What the lines of a sheet are found to be.
+pub(crate) enum Judgement {
+    Good(Size),
+    Refused(Refusal),
+}
 
 // A good line 1 has the side.
 enum Side {
@@ -24,13 +32,13 @@ enum Side {
     Refused(u32),
 }
 
-// What a sheet is answered, its buffer apart.
-pub(crate) fn judge_sheet(input: &[u8]) -> Answer
-    ensures { λ r. ⌜ saidOf r ≡ said (judge (now (input .entry))) ⌝ }
+// The lines of a sheet.
+pub(crate) fn judge_sheet(input: &[u8]) -> Judgement
+    ensures { λ r. ⌜ foundOf r ≡ found (judge (now (input .entry))) ⌝ }
 {
     match judge_side(input) {
         Side::Good(side) => judge_curves(input, side),
-        Side::Refused(number) => Answer::Refused(Refusal { number, line: 1 }),
+        Side::Refused(number) => Judgement::Refused(Refusal { number, line: 1 }),
     }
 }
 
@@ -51,17 +59,17 @@ fn judge_side(input: &[u8]) -> Side
 }
 
 // The curve lines, after a good line 1.
-fn judge_curves(input: &[u8], side: u32) -> Answer
+fn judge_curves(input: &[u8], side: u32) -> Judgement
     requires { ⌜ firstThat (sideOrder (firstLine (now input))) ≡ accepted ⌝ }
     requires { ⌜ side ≡ number (firstLine (now input)) 0 ⌝ }
-    ensures { λ r. ⌜ saidOf r ≡ said (judge (now (input .entry))) ⌝ }
+    ensures { λ r. ⌜ foundOf r ≡ found (judge (now (input .entry))) ⌝ }
 {
     let mut at = 6;
     let mut line = 2;
     while at < input.len() {
         match judge_curve(side, line, &input[at..]) {
             Verdict::Refused(number) => {
-                return Answer::Refused(Refusal { number, line });
+                return Judgement::Refused(Refusal { number, line });
             }
             Verdict::Accepted => {
                 at += 71;
@@ -69,7 +77,7 @@ fn judge_curves(input: &[u8], side: u32) -> Answer
             }
         }
     }
-    Answer::Drawn(Size {
+    Judgement::Good(Size {
         side,
         curves: line - 2,
     })

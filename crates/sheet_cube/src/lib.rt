@@ -8,11 +8,13 @@ ghost use mathlib.Core.Path.{_≡_};
 ghost use Prim.Native.Nat.{_≤_};
 ghost use Rattle.cube.specs.Cube.{volume};
 ghost use Rattle.sheet_cube.specs.Answer.{DrawsSheet};
+use crate::judge::Judgement;
 
-// The side of a sheet's cube and the number of its curve lines.
-pub struct Size {
+// An accepted sheet: the side of its cube, the number of its curve lines, and that of the cells that they marked.
+pub struct Sheet {
     pub side: u32,
     pub curves: u32,
+    pub new_cells: u32,
 }
 
 // A refusal's number and the line that is refused.
@@ -23,7 +25,7 @@ pub struct Refusal {
 
 // What a sheet call answers.
 pub enum Answer {
-    Drawn(Size),
+    Drawn(Sheet),
     Refused(Refusal),
 }
 
@@ -39,11 +41,15 @@ pub fn draw_sheet(input: &[u8], buffer: &mut [u8]) -> Answer
         });
     }
     match judge::judge_sheet(input) {
-        Answer::Refused(refusal) => Answer::Refused(refusal),
-        Answer::Drawn(size) => {
+        Judgement::Refused(refusal) => Answer::Refused(refusal),
+        Judgement::Good(size) => {
             let cells = cells(size.side);
-            draw::draw_lines(input, size, &mut buffer[..cells]);
-            Answer::Drawn(size)
+            let new_cells = draw::draw_lines(input, size, &mut buffer[..cells]);
+            Answer::Drawn(Sheet {
+                side: size.side,
+                curves: size.curves,
+                new_cells,
+            })
         }
     }
 }

@@ -10,8 +10,9 @@ use lib.Seq.{take-at}
 use Rattle.cube.specs.Cube.{volume}
 use Rattle.sheet.specs.Sheet.{Stroke, Judged, good, bad, judge}
 use Rattle.sheet.specs.Printed.{cubeOf, refusalLine}
-use Rattle.sheet.specs.Call.{said, bufferAfter}
+use Rattle.sheet.specs.Call.{bufferAfter}
 use Rattle.sheet.proofs.Printed.{length-refusalLine}
+use Rattle.sheet_cube.specs.Lines.{found}
 use Rattle.sheet_cube.proofs.Called.{length-cube}
 use Rattle.sheet_cube.proofs.Drawing.{good-sheet}
 use Rattle.sheet_program.specs.declared.Drawing.{Drawing}
@@ -50,7 +51,7 @@ module _ {input buffer bufferNow text textNow : List ℕ} {r : Drawing}
   pub drawn : {S : ℕ} → r ≡ Cube S → Drawn input bufferNow S
   drawn {S} e =
       let g = is-good (judge input) (sym (d .answer) ∙ e) in
-      let sheet = good-sheet input (ap said (g .1)) in
+      let sheet = good-sheet input (ap found (g .1)) in
       let most : S ≤ 40 = sheet .side-most in
       let size : length (cubeOf S (g .0)) ≡ volume S = length-cube S (g .0) in
       let holds : bufferNow ≡ cubeOf S (g .0) ++ drop (volume S) buffer =

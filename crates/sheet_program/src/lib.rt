@@ -30,7 +30,7 @@ pub fn draw_or_refuse(input: &[u8], buffer: &mut [u8], text: &mut [u8]) -> Drawi
         (now (text .entry)) (now (text .exit)) r ⌝ }
 {
     match sheet_cube::draw_sheet(input, buffer) {
-        Answer::Drawn(size) => Drawing::Cube(size.side),
+        Answer::Drawn(sheet) => Drawing::Cube(sheet.side),
         Answer::Refused(refusal) => {
             sheet_text::refusal_line(refusal.number, refusal.line, text);
             Drawing::Line(18)

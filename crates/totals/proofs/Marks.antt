@@ -12,6 +12,7 @@ use lib.ListN.{length, getD}
 use Rattle.decide.specs.Some.{someOf}
 use Rattle.decide.proofs.Some.{some-of}
 use Rattle.decide.proofs.Truth.{either, both-false, decided, true-of, false-of, equal}
+use Rattle.drawing.specs.NewCells.{unmarkedCells}
 use Rattle.totals.specs.Totals.{sumOver, count, isHeld, heldFrom}
 
 -- A mark is held if it stands at some byte.
@@ -123,3 +124,12 @@ count-held cube mark = (
       (λ f. let none = sum-not-held (λ q. 1) mark 0 cube (false-of (isHeld cube mark) f) in absurd (omega (arith, none, l)))
       (decided (isHeld cube mark)),
 )
+
+-- The count of mark 0 is that of the unmarked cells.
+pub count-unmarked : (cube : List ℕ) → count cube 0 ≡ unmarkedCells cube
+unfolding sumOver unmarkedCells
+count-unmarked cube = from 0 cube
+  where
+    from : (p : ℕ) (cube : List ℕ) → sumOver (λ q. 1) 0 p cube ≡ unmarkedCells cube
+    from p [] = refl
+    from p (b ∷ cube) = ap (cond (eqb b 0) 1 0 +_) (from (suc p) cube)

@@ -8,9 +8,8 @@ use lib.ListN.{length}
 use lib.Seq.{length-take-le}
 use Rattle.cube.specs.Cube.{volume}
 use Rattle.sheet.specs.Sheet.{judge}
-use Rattle.sheet.specs.Call.{drew, said}
-use Rattle.sheet_cube.specs.declared.Size.{Size}
-use Rattle.sheet_cube.specs.Answer.{saidOf}
+use Rattle.sheet_cube.specs.declared.judge.Size.{Size}
+use Rattle.sheet_cube.specs.Lines.{sized, found, foundOf}
 use Rattle.sheet_cube.proofs.Drawing.{good-sheet}
 use Rattle.sheet_cube.proofs.Called.{buffer-call, refused-call, cube-there, drawn-call}
 use Rattle.sheet_cube.proofs.draw_sheet.Statement.{statement}
@@ -38,7 +37,7 @@ module _ (c : tie.After-judge-sheet) where
   lent : length buffer ≡ 64000
   lent = omega (arith, c .before .if1 .left)
 
-  judged : said (judge input) ≡ saidOf (c .judge-sheet .result)
+  judged : found (judge input) ≡ foundOf (c .judge-sheet .result)
   judged = sym (c .judge-sheet .ensures)
 
 enum-known-refusal : tie.Need-enum-known-refusal
@@ -55,8 +54,8 @@ module _ (c : tie.After-known-told2) where
   abbrev size : Size
   size = c .before .size .given .0 .0
 
-  drawn : said (judge (input j)) ≡ drew (size .side) (size .curves)
-  drawn = judged j ∙ ap saidOf (c .before .size .given .1)
+  drawn : found (judge (input j)) ≡ sized (size .side) (size .curves)
+  drawn = judged j ∙ ap foundOf (c .before .size .given .1)
 
 cells-requires : tie.Need-cells-requires
 cells-requires c κs = good-sheet (input (j c)) (drawn c) .side-most
@@ -84,7 +83,7 @@ draw-lines-requires c κs =
 returns-2 : tie.Need-returns-2
 returns-2 c =
     let j = c .before .before .before in
-    refused-call (input j) (buffer j) (lent j) _ (judged j ∙ ap saidOf (c .before .refusal .given .1))
+    refused-call (input j) (buffer j) (lent j) _ (judged j ∙ ap foundOf (c .before .refusal .given .1))
 
 same-length : tie.Need-same-length
 same-length c = search needs
@@ -94,7 +93,8 @@ returns-3 c =
     let m = c .before .before in
     let v = m .before .before .cells .ensures in
     let g = m .before .before .before in
-    rw v (drawn-call (input (j g)) (buffer (j g)) (lent (j g)) (size g) (drawn g) _ (rw v at (m .draw-lines .ensures)))
+    rw v (drawn-call (input (j g)) (buffer (j g)) (lent (j g)) (size g) (drawn g) _ (rw v at (m .draw-lines .ensures .1))
+    (m .draw-lines .ensures .0))
 
 pub draw-sheet-spec : {M : Type 1} → statement M
 draw-sheet-spec =

@@ -17,7 +17,7 @@ use Rattle.sheet.proofs.Refused.{line-accepted}
 use Rattle.sheet_cube.specs.declared.Answer.{Answer}
 use Rattle.sheet_cube.specs.Answer.{saidOf, DrawsSheet}
 use Rattle.sheet_cube.proofs.Drawing.{is-good}
-use Rattle.sheet_cube.proofs.Called.{buffer-good, is-bad}
+use Rattle.sheet_cube.proofs.Called.{buffer-good, is-bad, found-said}
 use Rattle.sheet_text.specs.declared.Written.{Written}
 use Rattle.sheet_text.specs.Writes.{Writes}
 use Rattle.sheet_program.specs.declared.Drawing.the-variants.{Cube, Line}
@@ -34,9 +34,9 @@ module _ {input buffer bufferNow : List ℕ} {a : Answer} (d : DrawsSheet input 
   leaves = d .leaves ∙ ap (λ j. bufferAfter j buffer) (buffer-good input buffer whole)
 
   -- The sheet is drawn,
-  draws : {S n : ℕ} → saidOf a ≡ drew S n → (text : List ℕ) → DrawsOrRefuses input buffer bufferNow text text (Cube S)
+  draws : {S n new : ℕ} → saidOf a ≡ drew S n new → (text : List ℕ) → DrawsOrRefuses input buffer bufferNow text text (Cube S)
   draws e text =
-      let j = sym (is-good (judge input) (judged e) .good) in
+      let j = sym (is-good (judge input) (found-said (judge input) (judged e)) .good) in
       record { answer = ap drawingOf j; leaves = leaves; writes = ap (λ i. textAfter i text) j }
 
   -- or it is refused, and the line is written.
@@ -44,7 +44,7 @@ module _ {input buffer bufferNow : List ℕ} {a : Answer} (d : DrawsSheet input 
       Writes (firstThat (lineOrder n k (length text))) (refusalLine n k) text after w →
       DrawsOrRefuses input buffer bufferNow text after (Line 18)
   refuses {n} {k} e {text} room w =
-      let j = sym (is-bad (judge input) (judged e)) in
+      let j = sym (is-bad (judge input) (found-said (judge input) (judged e))) in
       let small = bad-small input (sym j) in
       let v = line-accepted n k (length text) (omega (arith, small .0)) (omega (arith, small .1)) room in
       record {
@@ -56,8 +56,8 @@ module _ {input buffer bufferNow : List ℕ} {a : Answer} (d : DrawsSheet input 
 draw-sheet-requires : tie.Need-draw-sheet-requires
 draw-sheet-requires c κs = search needs
 
-enum-known-size : tie.Need-enum-known-size
-enum-known-size c = search needs
+enum-known-sheet : tie.Need-enum-known-sheet
+enum-known-sheet c = search needs
 
 enum-known-refusal : tie.Need-enum-known-refusal
 enum-known-refusal c = search needs
@@ -72,7 +72,7 @@ returns : tie.Need-returns
 returns c =
     let d = c .before .before .before .before .before in
     let s = d .before .before .before .before .before in
-    draws (d .draw-sheet .ensures) (s .pre .0) (ap saidOf (c .before .size .given .1)) _
+    draws (d .draw-sheet .ensures) (s .pre .0) (ap saidOf (c .before .sheet .given .1)) _
 
 same-length-2 : tie.Need-same-length-2
 same-length-2 c = search needs
@@ -93,7 +93,7 @@ draw-or-refuse-spec =
     tie.close
     (tie.spec
     draw-sheet-requires
-    enum-known-size
+    enum-known-sheet
     enum-known-refusal
     refusal-line-requires
     same-length

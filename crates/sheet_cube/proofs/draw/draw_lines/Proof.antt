@@ -1,25 +1,29 @@
--- `draw_lines` meets its contract: what is left to draw, drawn into the cube so far, gives the sheet's cube.
+-- `draw_lines` meets its contract: what is left to draw, drawn into the cube so far, gives the sheet's cube, and its new
+-- cells with those counted so far the sheet's sum.
 use borrow.Author.Needs.{needs}
 use mathlib.Core.Path.{_≡_, sym, _∙_, ap, subst}
 use mathlib.Core.List.{List}
 use Prim.Native.Nat.{ℕ, _+_, _-_, _*_, _≤_, _<_}
+use native.Mathlib.Nat.{mul-le-mul}
 use native.Mathlib.Omega.{arith}
 use native.Mathlib.Numerals.{add-one}
 use lib.ListN.{length, take, drop}
+use Rattle.drawing.specs.Drawing.{drawn}
+use Rattle.drawing.specs.NewCells.{unmarkedCells}
 use Rattle.curve.specs.Curve.{curveOf}
 use Rattle.sheet.specs.Sheet.{strokeOf, objectOf}
 use Rattle.sheet_lines.proofs.Fits.{read-curve}
 use Rattle.sheet_cube.proofs.Judged.{Passes, passes-fits, passes-draws}
-use Rattle.sheet_cube.proofs.Drawing.{GoodSheet, good-sheet, DrawnSoFar, none-drawn, all-drawn, line, one-more}
+use Rattle.sheet_cube.proofs.Drawing.{GoodSheet, good-sheet, DrawnSoFar, none-drawn, all-drawn, all-counted, line, sum-at-most, one-more}
 use Rattle.sheet_cube.proofs.Drawing.{whole-buffer, line-passes, line-there, line-ends}
 use Rattle.sheet_cube.proofs.draw.draw_lines.Statement.{statement}
 use Rattle.sheet_cube.proofs.draw.draw_lines.Tie as tie
 
 abbrev Inv-loop : tie.InvT-loop
-Inv-loop input size cube₀ curves k₀ cube k = DrawnSoFar input (size .side) k cube × (k ≤ size .curves)
+Inv-loop input size cube₀ curves new₀ k₀ cube new k = DrawnSoFar input (size .side) k cube new × (k ≤ size .curves)
 
 abbrev μ-loop : tie.MeasureT-loop
-μ-loop input size cube₀ curves k₀ cube k = size .curves - k
+μ-loop input size cube₀ curves new₀ k₀ cube new k = size .curves - k
 
 clear-requires : tie.Need-clear-requires Inv-loop μ-loop
 clear-requires c κs = search needs
@@ -55,7 +59,7 @@ module _ (c : tie.In-loop Inv-loop μ-loop) where
   to-come : k < start .args .size .curves
   to-come = c .loop-test .taken
 
-  so-far : DrawnSoFar (input start) (side start) k (c .before .loop .cube)
+  so-far : DrawnSoFar (input start) (side start) k (c .before .loop .cube) (c .before .loop .new-cells)
   so-far = c .before .loop .inv .0
 
   ends : 6 + 71 * k + 71 ≤ length (input start)
@@ -105,6 +109,34 @@ mark-samples-requires : tie.Need-mark-samples-requires Inv-loop μ-loop
 mark-samples-requires c κs =
     let r = c .before in rw (is-curve r) (passes-draws (passing r) (so-far (l r) .whole))
 
+-- The stroke is drawn, and its new cells are counted.
+module _ (c : tie.After-mark-samples Inv-loop μ-loop) where
+  abbrev before : tie.After-read-curve Inv-loop μ-loop
+  before = c .before .before
+
+  abbrev drawn-line : List ℕ
+  drawn-line = line (sheet (start (l before))) (to-come (l before)) (so-far (l before))
+
+  fewer :
+      c .mark-samples .result +
+      unmarkedCells (drawn (side (start (l before))) (objectOf (strokeOf drawn-line)) (l before .before .loop .cube))
+      ≡ unmarkedCells (l before .before .loop .cube)
+  fewer = rw (c .mark-samples .ensures .1, is-curve before) at (c .mark-samples .ensures .0)
+
+add-new-cells : tie.Need-add-new-cells Inv-loop μ-loop
+add-new-cells c =
+    let m = c .before .before in
+    let i = l (before m) in
+    let s = start i in
+    let most = sheet s .side-most in
+    record {
+      fits = omega (
+        arith,
+        sum-at-most (sheet s) (to-come i) (so-far i) (m .mark-samples .result) (fewer m),
+        mul-le-mul (mul-le-mul most most) most,
+      );
+    }
+
 add-k : tie.Need-add-k Inv-loop μ-loop
 add-k c = search needs
 
@@ -115,7 +147,8 @@ loop-again : tie.Need-loop-again Inv-loop μ-loop
 loop-again c =
     let m = c .before .before in
     let r = m .before .before in (
-      rw (add-one (k (l r)), m .mark-samples .ensures, is-curve r) (one-more (sheet (start (l r))) (to-come (l r)) (so-far (l r))),
+      rw (add-one (k (l r)), m .mark-samples .ensures .1, is-curve r)
+          (one-more (sheet (start (l r))) (to-come (l r)) (so-far (l r)) (m .mark-samples .result) (fewer m)),
       omega (arith, to-come (l r)),
     )
 
@@ -129,8 +162,9 @@ returns c =
     let s = c .before .before .before .before .before .before .before .before .before in
     let i = c .before .loop .inv in
     let done : c .before .loop .k ≡ s .args .size .curves = omega (arith, i .1, c .loop-test .left) in
-    all-drawn (sheet s) (subst (λ n. DrawnSoFar (input s) (side s) n (c .before .loop .cube)) done (i .0)) ∙
-    whole-buffer (sheet s) (s .args .cube .now) (s .pre .1)
+    let all : DrawnSoFar (input s) (side s) (s .args .size .curves) (c .before .loop .cube) (c .before .loop .new-cells) =
+    subst (λ n. DrawnSoFar (input s) (side s) n (c .before .loop .cube) (c .before .loop .new-cells)) done (i .0) in
+    (all-counted (sheet s) all, all-drawn (sheet s) all ∙ whole-buffer (sheet s) (s .args .cube .now) (s .pre .1))
 
 pub draw-lines-spec : {M : Type 1} → statement M
 draw-lines-spec =
@@ -149,6 +183,7 @@ draw-lines-spec =
     part-read-curve-end
     read-curve-requires
     mark-samples-requires
+    add-new-cells
     add-k
     loop-less
     loop-again

@@ -11,9 +11,9 @@ use lib.Seq.{take-all}
 use Rattle.decide.specs.Refusal.{accepted, firstThat}
 use Rattle.decide.specs.Verdict.{verdictOf}
 use Rattle.sheet.specs.Sheet.{curveOrder}
-use Rattle.sheet.specs.Call.{said}
 use Rattle.sheet_lines.specs.Read.{firstLine}
 use Rattle.sheet_lines.proofs.Lines.{first-within}
+use Rattle.sheet_cube.specs.Lines.{found}
 use Rattle.sheet_cube.proofs.Judged.{Left, passes-side, passes, left-start, left-none, left-refused, left-more, line-within}
 use Rattle.sheet_cube.proofs.judge.judge_curves.Statement.{statement}
 use Rattle.sheet_cube.proofs.judge.judge_curves.Tie as tie
@@ -87,7 +87,7 @@ returns : tie.Need-returns Inv-loop μ-loop
 returns c =
     let j = c .before .before .before in
     let e = sym (judged j) ∙ ap verdictOf (c .before .number .given .1) in
-    sym (ap said (left-refused (input j) (side j) (loop j .loop .inv .left) (there j) e))
+    sym (ap found (left-refused (input j) (side j) (loop j .loop .inv .left) (there j) e))
 
 enum-told : tie.Need-enum-told Inv-loop μ-loop
 enum-told c = search needs

@@ -1,9 +1,8 @@
 -- `judge_sheet` meets its contract: line 1 is refused, or the curve lines decide.
 use borrow.Author.Needs.{needs}
 use mathlib.Core.Path.{sym, ap, subst}
-use Rattle.sheet.specs.Call.{said}
 use Rattle.sheet_lines.specs.Read.{firstLine}
-use Rattle.sheet_cube.specs.Lines.{SideOf}
+use Rattle.sheet_cube.specs.Lines.{found, SideOf}
 use Rattle.sheet_cube.proofs.Judged.{side-refused}
 use Rattle.sheet_cube.proofs.judge.judge_sheet.Statement.{statement}
 use Rattle.sheet_cube.proofs.judge.judge_sheet.Tie as tie
@@ -29,7 +28,7 @@ returns-2 : tie.Need-returns-2
 returns-2 c =
     let j = c .before .before .before in
     let input = j .before .before .args .input .now in
-    sym (ap said (side-refused input (subst (SideOf (firstLine input)) (c .before .number .given .1) (j .judge-side .ensures))))
+    sym (ap found (side-refused input (subst (SideOf (firstLine input)) (c .before .number .given .1) (j .judge-side .ensures))))
 
 pub judge-sheet-spec : {M : Type 1} → statement M
 judge-sheet-spec =
