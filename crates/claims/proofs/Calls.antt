@@ -2,7 +2,7 @@
 use mathlib.Core.Path.{_≡_, refl, _∙_, ap}
 use mathlib.Core.List.{List, [], _∷_}
 use Prim.Native.Nat.{ℕ}
-use Rattle.scan.specs.declared.answer.Answer.{Answer}
+use Rattle.scan.specs.declared.answer.DrawAnswer.{DrawAnswer}
 use Rattle.scan.specs.Answer.{Draws}
 use Rattle.curve.specs.declared.Curve.{Curve}
 use Rattle.curve.specs.Curve.{curveOf}
@@ -12,7 +12,7 @@ use Rattle.drawing.specs.Drawing.{inTurn}
 use Rattle.claims.specs.Demand3.{Call, run}
 use Rattle.claims.specs.Calls.{curveCall, patchCall, Called, none, curve-then, patch-then}
 
-module _ {side : ℕ} {grid after : List ℕ} {r : Answer} where
+module _ {side : ℕ} {grid after : List ℕ} {r : DrawAnswer} where
   -- One call of `draw_curve`.
   pub curve-turn : (c : Curve) → Draws side (curveOf c) grid after r → after ≡ run (curveCall side c ∷ []) grid
   unfolding run inTurn

@@ -1,7 +1,8 @@
 -- `Known`: K1 to K12 hold. `Turns`: the list argument, for calls of any kind. `Demand3`: demand 3 holds. `Strokes`:
 -- its form for a stroke sheet. `Calls`: calls to the functions that draw are its calls. `Sheets`: an
 -- accepted sheet call is a list of its own. `Instances`: small computed cases, which show that demand 3 speaks of
--- something. `Totals`: the totals of an accepted sheet add up. `Slits`: patches have no slits.
+-- something. `Totals`: the totals of an accepted sheet add up. `Slits`: patches have no slits. `NewCells`: new cells
+-- are different cells, and those of a sheet add up.
 pub mod Known
 pub mod Turns
 pub mod Demand3
@@ -11,3 +12,4 @@ pub mod Calls
 pub mod Sheets
 pub mod Totals
 pub mod Slits
+pub mod NewCells

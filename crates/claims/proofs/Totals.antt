@@ -16,8 +16,8 @@ use Rattle.drawing.specs.Drawing.{drawn, inTurn}
 use Rattle.drawing.proofs.Drawn.{drawn-holds, length-drawn}
 use Rattle.sheet.specs.Line.{number}
 use Rattle.sheet.specs.Sheet.{Stroke, strokeOf, objectOf, markOut, curveOrder, good, judge}
-use Rattle.sheet.specs.Call.{said}
 use Rattle.sheet.specs.Printed.{cubeOf}
+use Rattle.sheet_cube.specs.Lines.{found}
 use Rattle.sheet_cube.proofs.Judged.{passes}
 use Rattle.sheet_cube.proofs.Drawing.{Each, good-strokes, good-sheet}
 use Rattle.sheet_cube.proofs.Called.{length-cube}
@@ -68,7 +68,7 @@ pub claim : Claim
 unfolding totalsOutput
 claim = record {
   sheet-totals = λ input S strokes e.
-      let g = good-sheet input (ap said e) in
+      let g = good-sheet input (ap found e) in
       let size = length-cube S strokes in
       let bytes = cube-bytes input e in
       record {

@@ -1,7 +1,7 @@
 -- Calls to the functions that draw, as calls of demand 3's list.
 use mathlib.Core.List.{List, [], _∷_}
 use Prim.Native.Nat.{ℕ}
-use Rattle.scan.specs.declared.answer.Answer.{Answer}
+use Rattle.scan.specs.declared.answer.DrawAnswer.{DrawAnswer}
 use Rattle.scan.specs.Answer.{Draws}
 use Rattle.curve.specs.declared.Curve.{Curve}
 use Rattle.curve.specs.Curve.{curveOf}
@@ -20,7 +20,7 @@ patchCall side p = draw-patch side (p .n) (p .m) (p .points) (p .mark)
 -- of calls, the grid at the start and the grid in the end.
 pub data Called : List Call → List ℕ → List ℕ → Type 0 where
   none : {grid : List ℕ} → Called [] grid grid
-  curve-then : {side : ℕ} {c : Curve} {r : Answer} {calls : List Call} {grid next after : List ℕ} →
+  curve-then : {side : ℕ} {c : Curve} {r : DrawAnswer} {calls : List Call} {grid next after : List ℕ} →
       Draws side (curveOf c) grid next r → Called calls next after → Called (curveCall side c ∷ calls) grid after
-  patch-then : {side : ℕ} {p : Patch} {r : Answer} {calls : List Call} {grid next after : List ℕ} →
+  patch-then : {side : ℕ} {p : Patch} {r : DrawAnswer} {calls : List Call} {grid next after : List ℕ} →
       Draws side (patchOf p) grid next r → Called calls next after → Called (patchCall side p ∷ calls) grid after

@@ -1,0 +1,86 @@
+-- Document 02, A.10 holds. Different places are different cells, so the places that a drawing turns to marked, each once,
+-- are cells, each once; and what the strokes of a sheet leave unmarked is what its cube has unmarked.
+use mathlib.Core.Path.{_≡_, refl, sym, _∙_, ap, fun-ext}
+use mathlib.Core.List.{List, [], _∷_, map, List·Memᴰ, Memᴰ·map, Memᴰ·of-map, Memᴰ·cast}
+use Prim.Native.Nat.{ℕ, _+_}
+use native.Mathlib.Omega.{arith}
+use lib.ListN.{length, getD, replicate, length-map}
+use Rattle.bezier.specs.Exact.{Sample}
+use Rattle.decide.specs.Refusal.{accepted}
+use Rattle.cube.specs.Cube.{Cell, place, volume, cellAt}
+use Rattle.cube.proofs.Places.{cell-at-place, place-of-cell}
+use Rattle.drawing.specs.Object.{Object, cellOf}
+use Rattle.drawing.specs.Refusals.{drawVerdict}
+use Rattle.drawing.specs.Drawing.{drawn, inTurn}
+use Rattle.drawing.specs.NewCells.{unmarkedCells, Different}
+use Rattle.drawing.proofs.Accepted.{draw-accepted}
+use Rattle.drawing.proofs.Cells.{cell-inside}
+use Rattle.drawing.proofs.Drawn.{PlaceOfSample}
+use Rattle.drawing.proofs.NewCells.{unmarked-cleared, new-of, new-places, drawn-at-most, turns-new}
+use Rattle.sheet.specs.Sheet.{Stroke, objectOf}
+use Rattle.sheet.specs.Printed.{cubeOf, markedCells}
+use Rattle.sheet.specs.Call.{newCellsOf}
+use Rattle.sheet.proofs.Lines.{listing-lines, marked-or-not}
+use Rattle.sheet_cube.proofs.Called.{length-cube}
+use Rattle.totals.proofs.Marks.{count-unmarked}
+use Rattle.claims.specs.NewCells.{UnmarkedCellOfSample, TurnsToMarked, AddUpToMarked, Claim}
+
+-- What is different stays so under a map that can be undone.
+different-map : {A B : Type 0} (f : A → B) (g : B → A) → ((a : A) → g (f a) ≡ a) → (l : List A) → Different l → Different (map f l)
+different-map f g back [] d = tt
+different-map f g back (a ∷ l) d = (
+  λ m. let w = Memᴰ·of-map f l m in d .0 (Memᴰ·cast (sym (back a) ∙ ap g (sym (w .2)) ∙ back (w .0)) (w .1)),
+  different-map f g back l (d .1),
+)
+
+module _ (S : ℕ) (o : Object) (grid : List ℕ) (e : drawVerdict S (length grid) o ≡ accepted) where
+  -- A sample's cell is the one that stands at its place.
+  cell-there : {is : List ℕ} → Sample (o .counts) is → cellAt S (place S (cellOf o is)) ≡ cellOf o is
+  cell-there {is} s =
+      fun-ext (cell-at-place S (cellOf o is) (cell-inside (draw-accepted S o (length grid) .0 e .0) s))
+
+  turns-to-marked : TurnsToMarked S o grid
+  turns-to-marked =
+      let n = new-places S o grid e in
+      record {
+        at-most = drawn-at-most S o grid;
+        cells = map (cellAt S) (n .places);
+        are-different = different-map (cellAt S) (place S) (place-of-cell S) (n .places) (n .different);
+        are-these = λ c. (
+          λ m. let w = Memᴰ·of-map (cellAt S) (n .places) m in
+              let p = n .are (w .0) .0 (w .1) in
+              record {
+                sample = p .0 .sample;
+                is-sample = p .0 .is-sample;
+                is-its-cell = sym (w .2) ∙ ap (cellAt S) (p .0 .at) ∙ cell-there (p .0 .is-sample);
+                is-unmarked = ap (λ q. getD grid q 0) (ap (place S) (sym (w .2)) ∙ place-of-cell S (w .0)) ∙ p .1;
+              },
+          λ u. let p : PlaceOfSample S o (place S c) =
+              record { sample = u .sample; is-sample = u .is-sample; at = ap (place S) (u .is-its-cell) } in
+              Memᴰ·cast (u .is-its-cell ∙ sym (cell-there (u .is-sample)) ∙ ap (λ d. cellAt S (place S d)) (sym (u .is-its-cell)))
+              (Memᴰ·map (cellAt S) (n .are (place S c) .1 (p, u .is-unmarked))),
+        );
+        so-many = sym (new-of grid (drawn S o grid) (n .count)) ∙ sym (length-map (n .places) (cellAt S));
+      }
+
+-- What the strokes turn to marked, and what they leave unmarked, is the whole cube.
+module _ (S : ℕ) (strokes : List Stroke) where
+  all-cells : newCellsOf S strokes + unmarkedCells (cubeOf S strokes) ≡ volume S
+  unfolding newCellsOf cubeOf
+  all-cells =
+      turns-new (λ s. drawn S (objectOf s)) (λ s. drawn-at-most S (objectOf s)) strokes (replicate (volume S) 0) ∙
+      unmarked-cleared (volume S)
+
+  add-up-to-marked : AddUpToMarked S strokes
+  add-up-to-marked =
+      let cube : List ℕ = cubeOf S strokes in
+      let marked : newCellsOf S strokes ≡ markedCells cube =
+      omega (arith, all-cells, marked-or-not cube, length-cube S strokes) in
+      record {
+        marked = marked;
+        listed = ap (_+ 1) marked ∙ sym (listing-lines S cube);
+        totalled = ap (newCellsOf S strokes +_) (count-unmarked cube) ∙ all-cells;
+      }
+
+pub claim : Claim
+claim = record { drawing = turns-to-marked; sheet = add-up-to-marked }
