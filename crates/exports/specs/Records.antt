@@ -5,10 +5,13 @@ use mathlib.Core.List.{List}
 use Prim.Native.Nat.{ℕ}
 use lib.IntN.{ℤ}
 use lib.ListN.{length}
-use Rattle.decide.specs.Refusal.{Verdict}
+use Rattle.decide.specs.Refusal as refusal
+use Rattle.decide.specs.Refusal.{Verdict, Outcome, gives, refuses}
 use Rattle.drawing.specs.Object.{Object}
 use Rattle.drawing.specs.Refusals.{checkVerdict, drawVerdict, listVerdict, sampleCount}
 use Rattle.drawing.specs.Drawing.{drawn, listed}
+use Rattle.drawing.specs.NewCells.{newCells}
+use Rattle.scan.specs.declared.answer.Drawn.{Drawn}
 use Rattle.exports.specs.Signed.{signed, otherLength, ofLength}
 
 -- The signed answer, and what is lent: what it held if the record has another length, and else what the call leaves.
@@ -20,10 +23,20 @@ pub record Calls (size : ℕ) (bytes : List ℕ) (v : Verdict) (count : ℕ) (le
 abbrev pub ChecksBytes : (size S : ℕ) (o : Object) (r : ℤ) → Type 0
 ChecksBytes size S o r = r ≡ signed (ofLength size (o .points) (checkVerdict S o)) 0
 
--- A drawing: the number of samples, or minus the number; and the grid.
-abbrev pub DrawsBytes : (size S : ℕ) (o : Object) (grid gridNow : List ℕ) (r : ℤ) → Type 0
-DrawsBytes size S o grid gridNow r =
-    Calls size (o .points) (drawVerdict S (length grid) o) (sampleCount (o .counts)) (drawn S o grid) grid gridNow r
+-- Of what a drawing answers, the number of samples, and what stands for its new cells afterwards: their number, or where it
+-- is refused what was there.
+abbrev pub samplesOf : Outcome Drawn → Outcome ℕ
+samplesOf (gives d) = gives (d .samples)
+samplesOf (refuses k) = refuses k
+
+abbrev pub newCellsAfter : Outcome Drawn → (before : ℕ) → ℕ
+newCellsAfter (gives d) before = d .«new_cells»
+newCellsAfter (refuses k) before = before
+
+-- A drawing: the number of samples, or minus the number; the grid; and the number of new cells.
+pub record DrawsBytes (size S : ℕ) (o : Object) (grid gridNow : List ℕ) (new newNow : ℕ) (r : ℤ) : Type 0 where
+  pub call : Calls size (o .points) (drawVerdict S (length grid) o) (sampleCount (o .counts)) (drawn S o grid) grid gridNow r
+  pub new-cells : newNow ≡ refusal.leaves (ofLength size (o .points) (drawVerdict S (length grid) o)) (newCells grid gridNow) new
 
 -- A listing: the number of samples, or minus the number; and the list.
 abbrev pub ListsBytes : (size S : ℕ) (o : Object) (list listNow : List ℕ) (r : ℤ) → Type 0

@@ -5,7 +5,8 @@ ghost use Rattle.drawing.specs.Object.{curve};
 ghost use Rattle.curve.specs.Curve.{curveOf};
 ghost use Rattle.exports.specs.Records.{ChecksBytes, ListsBytes, DrawsBytes};
 use crate::signed::copy;
-use crate::signed::of_answer;
+use crate::signed::of_drawing;
+use crate::signed::of_listing;
 use crate::signed::of_verdict;
 use crate::signed::refused;
 use curve::Curve;
@@ -41,7 +42,7 @@ pub extern "C" fn gidzkhalu_list_curve(side: u32, points: &[u8], steps: u32, lis
     if points.len() != 12 {
         return refused(51);
     }
-    of_answer(curve::list_curve(side, curve_of(points, steps, 0), list))
+    of_listing(curve::list_curve(side, curve_of(points, steps, 0), list))
 }
 
 #[no_mangle]
@@ -51,11 +52,16 @@ pub extern "C" fn gidzkhalu_draw_curve(
     steps: u32,
     mark: u8,
     grid: &mut [u8],
+    new_cells: &mut u32,
 ) -> i64
-    ensures { λ r. ⌜ DrawsBytes 12 side (curve steps (now (points .entry)) mark) (now (grid .entry)) (now (grid .exit)) r ⌝ }
+    ensures { λ r. ⌜ DrawsBytes 12 side (curve steps (now (points .entry)) mark) (now (grid .entry)) (now (grid .exit))
+        (now («new_cells» .entry)) (now («new_cells» .exit)) r ⌝ }
 {
     if points.len() != 12 {
         return refused(51);
     }
-    of_answer(curve::draw_curve(side, curve_of(points, steps, mark), grid))
+    of_drawing(
+        curve::draw_curve(side, curve_of(points, steps, mark), grid),
+        new_cells,
+    )
 }

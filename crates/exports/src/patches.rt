@@ -5,7 +5,7 @@ ghost use Rattle.drawing.specs.Object.{patch};
 ghost use Rattle.patch.specs.Patch.{patchOf};
 ghost use Rattle.exports.specs.Records.{ChecksBytes, DrawsBytes};
 use crate::signed::copy;
-use crate::signed::of_answer;
+use crate::signed::of_drawing;
 use crate::signed::of_verdict;
 use crate::signed::refused;
 use patch::Patch;
@@ -43,11 +43,16 @@ pub extern "C" fn gidzkhalu_draw_patch(
     m: u32,
     mark: u8,
     grid: &mut [u8],
+    new_cells: &mut u32,
 ) -> i64
-    ensures { λ r. ⌜ DrawsBytes 48 side (patch n m (now (points .entry)) mark) (now (grid .entry)) (now (grid .exit)) r ⌝ }
+    ensures { λ r. ⌜ DrawsBytes 48 side (patch n m (now (points .entry)) mark) (now (grid .entry)) (now (grid .exit))
+        (now («new_cells» .entry)) (now («new_cells» .exit)) r ⌝ }
 {
     if points.len() != 48 {
         return refused(51);
     }
-    of_answer(patch::draw_patch(side, patch_of(points, n, m, mark), grid))
+    of_drawing(
+        patch::draw_patch(side, patch_of(points, n, m, mark), grid),
+        new_cells,
+    )
 }

@@ -1,35 +1,28 @@
 // Sheets.
-ghost use mathlib.Core.Path.{_≡_};
-ghost use Prim.Native.Nat.{_≤_};
 ghost use Rattle.exports.specs.Sheet.{SheetBytes};
 use crate::signed::accepted;
 use crate::signed::refused;
 use sheet_cube::Answer;
 
 #[no_mangle]
-pub extern "C" fn gidzkhalu_draw_sheet(input: &[u8], buffer: &mut [u8], detail: &mut [u8]) -> i64
-    ensures { λ r. ⌜ SheetBytes (now (input .entry)) (now (buffer .entry)) (now (buffer .exit))
-        (now (detail .entry)) (now (detail .exit)) r ⌝ }
+pub extern "C" fn gidzkhalu_draw_sheet(
+    input: &[u8],
+    buffer: &mut [u8],
+    detail: &mut u32,
+    new_cells: &mut u32,
+) -> i64
+    ensures { λ r. ⌜ SheetBytes (now (input .entry)) (now (buffer .entry)) (now (buffer .exit)) (now (detail .exit))
+        (now («new_cells» .entry)) (now («new_cells» .exit)) r ⌝ }
 {
-    if detail.len() != 1 {
-        return refused(52);
-    }
     match sheet_cube::draw_sheet(input, buffer) {
-        Answer::Drawn(size) => {
-            detail[0] = byte(size.side);
-            accepted(size.curves)
+        Answer::Drawn(sheet) => {
+            *detail = sheet.side;
+            *new_cells = sheet.new_cells;
+            accepted(sheet.curves)
         }
         Answer::Refused(refusal) => {
-            detail[0] = byte(refusal.line);
+            *detail = refusal.line;
             refused(refusal.number)
         }
     }
-}
-
-// A number below 256.
-fn byte(number: u32) -> u8
-    requires { ⌜ number ≤ 255 ⌝ }
-    ensures { λ r. ⌜ r ≡ number ⌝ }
-{
-    number as u8
 }

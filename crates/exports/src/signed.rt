@@ -5,10 +5,12 @@ ghost use lib.IntN.{pos};
 ghost use lib.ListN.{length};
 ghost use Rattle.integers.specs.Magnitude.{Within};
 ghost use Rattle.decide.specs.Verdict.{verdictOf};
-ghost use Rattle.scan.specs.Answer.{answerOf};
+ghost use Rattle.scan.specs.Answer.{drawAnswerOf, listAnswerOf};
 ghost use Rattle.exports.specs.Signed.{minus, signed, signedOf};
+ghost use Rattle.exports.specs.Records.{samplesOf, newCellsAfter};
 use decide::Verdict;
-use scan::answer::Answer;
+use scan::answer::DrawAnswer;
+use scan::answer::ListAnswer;
 
 // A count.
 pub(crate) fn accepted(count: u32) -> i64
@@ -34,13 +36,27 @@ pub(crate) fn of_verdict(verdict: Verdict) -> i64
     }
 }
 
-// Of a drawing or a listing: the number of samples.
-pub(crate) fn of_answer(answer: Answer) -> i64
-    ensures { λ r. ⌜ (r ≡ signedOf (answerOf answer)) × Within (2 ^ 32) r ⌝ }
+// Of a listing: the number of samples.
+pub(crate) fn of_listing(answer: ListAnswer) -> i64
+    ensures { λ r. ⌜ (r ≡ signedOf (listAnswerOf answer)) × Within (2 ^ 32) r ⌝ }
 {
     match answer {
-        Answer::Samples(count) => accepted(count),
-        Answer::Refused(number) => refused(number),
+        ListAnswer::Samples(count) => accepted(count),
+        ListAnswer::Refused(number) => refused(number),
+    }
+}
+
+// Of a drawing: the number of samples. That of new cells is written where the drawing is accepted.
+pub(crate) fn of_drawing(answer: DrawAnswer, new_cells: &mut u32) -> i64
+    ensures { λ r. ⌜ (r ≡ signedOf (samplesOf (drawAnswerOf answer))) × Within (2 ^ 32) r ⌝ }
+    ensures { λ _. ⌜ now («new_cells» .exit) ≡ newCellsAfter (drawAnswerOf answer) (now («new_cells» .entry)) ⌝ }
+{
+    match answer {
+        DrawAnswer::Accepted(drawn) => {
+            *new_cells = drawn.new_cells;
+            accepted(drawn.samples)
+        }
+        DrawAnswer::Refused(number) => refused(number),
     }
 }
 

@@ -2,7 +2,7 @@
 use borrow.Author.Needs.{needs}
 use native.Mathlib.Omega.{arith}
 use Rattle.exports.proofs.Small.{reads}
-use Rattle.exports.proofs.Calls.{wrong-record, right-record}
+use Rattle.exports.proofs.Calls.{wrong-drawing, right-drawing}
 use Rattle.exports.proofs.curves.gidzkhalu_draw_curve.Statement.{statement}
 use Rattle.exports.proofs.curves.gidzkhalu_draw_curve.Tie as tie
 
@@ -11,7 +11,7 @@ refused-requires c κs = search needs
 
 returns : tie.Need-returns
 returns c =
-    wrong-record 12 _ _ _ _ _ (c .before .if1 .taken) (reads (c .refused .ensures))
+    wrong-drawing 12 _ _ _ (c .before .if1 .taken) (reads (c .refused .ensures))
 
 curve-of-requires : tie.Need-curve-of-requires
 curve-of-requires c κs = search needs
@@ -19,20 +19,19 @@ curve-of-requires c κs = search needs
 draw-curve-requires : tie.Need-draw-curve-requires
 draw-curve-requires c κs = search needs
 
-of-answer-requires : tie.Need-of-answer-requires
-of-answer-requires c κs = search needs
+of-drawing-requires : tie.Need-of-drawing-requires
+of-drawing-requires c κs = search needs
 
 same-length : tie.Need-same-length
 same-length c = search needs
 
 returns-2 : tie.Need-returns-2
 returns-2 c =
-    let k = c .before .before .before in
+    let k = c .before .before .before .before in
     let m = k .before .before in
     let e = m .before in
-    let d = rw (m .curve-of .ensures) at (k .draw-curve .ensures) in
-    right-record 12 _ _ _ _ _ (omega (arith, e .if1 .left)) (d .answer) (d .leaves)
-    (reads (c .of-answer .ensures))
+    right-drawing 12 _ _ _ _ (omega (arith, e .if1 .left)) (m .curve-of .ensures) (k .draw-curve .ensures)
+    (reads (c .of-drawing .ensures .0)) (c .of-drawing .ensures .1)
 
 pub gidzkhalu-draw-curve-spec : {M : Type 1} → statement M
 gidzkhalu-draw-curve-spec =
@@ -42,6 +41,6 @@ gidzkhalu-draw-curve-spec =
     returns
     curve-of-requires
     draw-curve-requires
-    of-answer-requires
+    of-drawing-requires
     same-length
     returns-2)

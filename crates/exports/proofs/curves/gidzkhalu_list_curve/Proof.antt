@@ -19,8 +19,8 @@ curve-of-requires c κs = search needs
 list-curve-requires : tie.Need-list-curve-requires
 list-curve-requires c κs = search needs
 
-of-answer-requires : tie.Need-of-answer-requires
-of-answer-requires c κs = search needs
+of-listing-requires : tie.Need-of-listing-requires
+of-listing-requires c κs = search needs
 
 same-length : tie.Need-same-length
 same-length c = search needs
@@ -32,7 +32,7 @@ returns-2 c =
     let e = m .before in
     let d = rw (m .curve-of .ensures) at (k .list-curve .ensures) in
     right-record 12 _ _ _ _ _ (omega (arith, e .if1 .left)) (d .answer) (d .leaves)
-    (reads (c .of-answer .ensures))
+    (reads (c .of-listing .ensures))
 
 pub gidzkhalu-list-curve-spec : {M : Type 1} → statement M
 gidzkhalu-list-curve-spec =
@@ -42,6 +42,6 @@ gidzkhalu-list-curve-spec =
     returns
     curve-of-requires
     list-curve-requires
-    of-answer-requires
+    of-listing-requires
     same-length
     returns-2)

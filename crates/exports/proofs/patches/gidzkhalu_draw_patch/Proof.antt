@@ -2,7 +2,7 @@
 use borrow.Author.Needs.{needs}
 use native.Mathlib.Omega.{arith}
 use Rattle.exports.proofs.Small.{reads}
-use Rattle.exports.proofs.Calls.{wrong-record, right-record}
+use Rattle.exports.proofs.Calls.{wrong-drawing, right-drawing}
 use Rattle.exports.proofs.patches.gidzkhalu_draw_patch.Statement.{statement}
 use Rattle.exports.proofs.patches.gidzkhalu_draw_patch.Tie as tie
 
@@ -11,7 +11,7 @@ refused-requires c κs = search needs
 
 returns : tie.Need-returns
 returns c =
-    wrong-record 48 _ _ _ _ _ (c .before .if1 .taken) (reads (c .refused .ensures))
+    wrong-drawing 48 _ _ _ (c .before .if1 .taken) (reads (c .refused .ensures))
 
 patch-of-requires : tie.Need-patch-of-requires
 patch-of-requires c κs = search needs
@@ -19,20 +19,19 @@ patch-of-requires c κs = search needs
 draw-patch-requires : tie.Need-draw-patch-requires
 draw-patch-requires c κs = search needs
 
-of-answer-requires : tie.Need-of-answer-requires
-of-answer-requires c κs = search needs
+of-drawing-requires : tie.Need-of-drawing-requires
+of-drawing-requires c κs = search needs
 
 same-length : tie.Need-same-length
 same-length c = search needs
 
 returns-2 : tie.Need-returns-2
 returns-2 c =
-    let k = c .before .before .before in
+    let k = c .before .before .before .before in
     let m = k .before .before in
     let e = m .before in
-    let d = rw (m .patch-of .ensures) at (k .draw-patch .ensures) in
-    right-record 48 _ _ _ _ _ (omega (arith, e .if1 .left)) (d .answer) (d .leaves)
-    (reads (c .of-answer .ensures))
+    right-drawing 48 _ _ _ _ (omega (arith, e .if1 .left)) (m .patch-of .ensures) (k .draw-patch .ensures)
+    (reads (c .of-drawing .ensures .0)) (c .of-drawing .ensures .1)
 
 pub gidzkhalu-draw-patch-spec : {M : Type 1} → statement M
 gidzkhalu-draw-patch-spec =
@@ -42,6 +41,6 @@ gidzkhalu-draw-patch-spec =
     returns
     patch-of-requires
     draw-patch-requires
-    of-answer-requires
+    of-drawing-requires
     same-length
     returns-2)

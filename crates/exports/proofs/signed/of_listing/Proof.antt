@@ -1,11 +1,11 @@
--- `of_answer` meets its contract.
+-- `of_listing` meets its contract.
 use borrow.Author.Needs.{needs}
 use mathlib.Core.Path.{sym, _∙_, ap}
-use Rattle.scan.specs.Answer.{answerOf}
+use Rattle.scan.specs.Answer.{listAnswerOf}
 use Rattle.exports.specs.Signed.{signedOf}
 use Rattle.exports.proofs.Small.{small-read}
-use Rattle.exports.proofs.signed.of_answer.Statement.{statement}
-use Rattle.exports.proofs.signed.of_answer.Tie as tie
+use Rattle.exports.proofs.signed.of_listing.Statement.{statement}
+use Rattle.exports.proofs.signed.of_listing.Tie as tie
 
 enum-known-answer : tie.Need-enum-known-answer
 enum-known-answer c = search needs
@@ -22,15 +22,15 @@ refused-requires c κs = search needs
 returns : tie.Need-returns
 returns c =
     let k = c .before .before .answer .given in
-    small-read (c .accepted .ensures .0 ∙ sym (ap (λ a. signedOf (answerOf a)) (k .1))) (c .accepted .ensures .1)
+    small-read (c .accepted .ensures .0 ∙ sym (ap (λ a. signedOf (listAnswerOf a)) (k .1))) (c .accepted .ensures .1)
 
 returns-2 : tie.Need-returns-2
 returns-2 c =
     let k = c .before .before .answer2 .given in
-    small-read (c .refused .ensures .0 ∙ sym (ap (λ a. signedOf (answerOf a)) (k .1))) (c .refused .ensures .1)
+    small-read (c .refused .ensures .0 ∙ sym (ap (λ a. signedOf (listAnswerOf a)) (k .1))) (c .refused .ensures .1)
 
-pub of-answer-spec : {M : Type 1} → statement M
-of-answer-spec =
+pub of-listing-spec : {M : Type 1} → statement M
+of-listing-spec =
     tie.close
     (tie.spec
     enum-known-answer
