@@ -1,6 +1,6 @@
 -- Demand 3 speaks of something: an accepted curve exists, a refused one leaves the grid, a later stroke over an earlier
--- one leaves both marks in view, and a patch with a half in each of two rows has no slit. Computed, in cubes of side 2
--- and 3.
+-- one leaves both marks in view, cells are new where they were unmarked, and a patch with a half in each of two rows has
+-- no slit. Computed, in cubes of side 2 and 3.
 use mathlib.Core.Path.{_≡_, refl}
 use mathlib.Core.List.{List, [], _∷_}
 use Prim.Native.Nat.{ℕ}
@@ -14,6 +14,7 @@ use Rattle.cube.specs.Cube.{someAxis, sideOut, place}
 use Rattle.drawing.specs.Object.{offset, coordinate, exact, cellOf}
 use Rattle.drawing.specs.Refusals.{countOut, coordinateOut, stepsTooLong, order, drawVerdict}
 use Rattle.drawing.specs.Drawing.{row, rows, samples, marked, cells, drawn, inTurn}
+use Rattle.drawing.specs.NewCells.{unmarkedCells, newCells}
 use Rattle.claims.specs.Demand3.{Call, draw-curve, draw-patch, run, Accepted}
 
 -- Along x from (0, 0, 0) to (1, 0, 0), and along y from (0, 0, 0) to (0, 1, 0), in one step each.
@@ -45,6 +46,24 @@ unfolding blend scale points value someBelow someOf firstThat nearest farApart s
     someAxis sideOut place offset coordinate exact cellOf countOut coordinateOut stepsTooLong order drawVerdict row rows samples
     marked cells drawn inTurn run
 later-over-earlier = refl
+
+-- From an unmarked cube the first of the two has two new cells, the second, which shares one of its two with the first,
+-- one, and the first once more, with another mark, none; a cell that both samples of a stroke share is new once.
+abbrev in-one-cell : Call
+in-one-cell = draw-curve 2 1 (1 ∷ 1 ∷ 1 ∷ 1 ∷ 1 ∷ 1 ∷ 1 ∷ 1 ∷ 1 ∷ 1 ∷ 1 ∷ 1 ∷ []) 7
+
+abbrev newAfter : List Call → Call → ℕ
+newAfter calls call = newCells (run calls (replicate 8 0)) (run (call ∷ []) (run calls (replicate 8 0)))
+
+pub new-by-turns :
+    (newAfter [] (along-x 100) ≡ 2) ×
+    (newAfter (along-x 100 ∷ []) (along-y 200) ≡ 1) ×
+    (newAfter (along-x 100 ∷ along-y 200 ∷ []) (along-x 101) ≡ 0) ×
+    (newAfter (along-x 100 ∷ []) in-one-cell ≡ 1)
+unfolding blend scale points value someBelow someOf firstThat nearest farApart someSample tooLong
+    someAxis sideOut place offset coordinate exact cellOf countOut coordinateOut stepsTooLong order drawVerdict row rows samples
+    marked cells drawn inTurn run unmarkedCells newCells
+new-by-turns = (refl, refl, refl, refl)
 
 -- Two rows of three samples: x is 0, 1/2, 1 and 1, 3/2, 2, y is 0, 1, 2 in both.
 abbrev two-rows : Call

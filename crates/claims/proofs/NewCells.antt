@@ -1,29 +1,28 @@
 -- Document 02, A.10 holds. Different places are different cells, so the places that a drawing turns to marked, each once,
--- are cells, each once; and what the strokes of a sheet leave unmarked is what its cube has unmarked.
-use mathlib.Core.Path.{_≡_, refl, sym, _∙_, ap, fun-ext}
+-- are cells, each once; and a listing has a line for each marked cell, the totals a count of the others.
+use mathlib.Core.Path.{_≡_, sym, _∙_, ap, fun-ext}
 use mathlib.Core.List.{List, [], _∷_, map, List·Memᴰ, Memᴰ·map, Memᴰ·of-map, Memᴰ·cast}
 use Prim.Native.Nat.{ℕ, _+_}
-use native.Mathlib.Omega.{arith}
-use lib.ListN.{length, getD, replicate, length-map}
+use lib.ListN.{length, getD, length-map}
 use Rattle.bezier.specs.Exact.{Sample}
 use Rattle.decide.specs.Refusal.{accepted}
-use Rattle.cube.specs.Cube.{Cell, place, volume, cellAt}
+use Rattle.cube.specs.Cube.{place, cellAt}
 use Rattle.cube.proofs.Places.{cell-at-place, place-of-cell}
 use Rattle.drawing.specs.Object.{Object, cellOf}
 use Rattle.drawing.specs.Refusals.{drawVerdict}
-use Rattle.drawing.specs.Drawing.{drawn, inTurn}
-use Rattle.drawing.specs.NewCells.{unmarkedCells, Different}
+use Rattle.drawing.specs.Drawing.{drawn}
+use Rattle.drawing.specs.NewCells.{Different}
 use Rattle.drawing.proofs.Accepted.{draw-accepted}
 use Rattle.drawing.proofs.Cells.{cell-inside}
 use Rattle.drawing.proofs.Drawn.{PlaceOfSample}
-use Rattle.drawing.proofs.NewCells.{unmarked-cleared, new-of, new-places, drawn-at-most, turns-new}
-use Rattle.sheet.specs.Sheet.{Stroke, objectOf}
-use Rattle.sheet.specs.Printed.{cubeOf, markedCells}
+use Rattle.drawing.proofs.NewCells.{new-of, new-places, drawn-at-most}
+use Rattle.sheet.specs.Sheet.{Stroke}
+use Rattle.sheet.specs.Printed.{cubeOf}
 use Rattle.sheet.specs.Call.{newCellsOf}
-use Rattle.sheet.proofs.Lines.{listing-lines, marked-or-not}
-use Rattle.sheet_cube.proofs.Called.{length-cube}
+use Rattle.sheet.proofs.Lines.{listing-lines}
+use Rattle.sheet.proofs.NewCells.{new-marked, new-or-unmarked}
 use Rattle.totals.proofs.Marks.{count-unmarked}
-use Rattle.claims.specs.NewCells.{UnmarkedCellOfSample, TurnsToMarked, AddUpToMarked, Claim}
+use Rattle.claims.specs.NewCells.{TurnsToMarked, AddUpToMarked, Claim}
 
 -- What is different stays so under a map that can be undone.
 different-map : {A B : Type 0} (f : A → B) (g : B → A) → ((a : A) → g (f a) ≡ a) → (l : List A) → Different l → Different (map f l)
@@ -63,24 +62,12 @@ module _ (S : ℕ) (o : Object) (grid : List ℕ) (e : drawVerdict S (length gri
         so-many = sym (new-of grid (drawn S o grid) (n .count)) ∙ sym (length-map (n .places) (cellAt S));
       }
 
--- What the strokes turn to marked, and what they leave unmarked, is the whole cube.
-module _ (S : ℕ) (strokes : List Stroke) where
-  all-cells : newCellsOf S strokes + unmarkedCells (cubeOf S strokes) ≡ volume S
-  unfolding newCellsOf cubeOf
-  all-cells =
-      turns-new (λ s. drawn S (objectOf s)) (λ s. drawn-at-most S (objectOf s)) strokes (replicate (volume S) 0) ∙
-      unmarked-cleared (volume S)
-
-  add-up-to-marked : AddUpToMarked S strokes
-  add-up-to-marked =
-      let cube : List ℕ = cubeOf S strokes in
-      let marked : newCellsOf S strokes ≡ markedCells cube =
-      omega (arith, all-cells, marked-or-not cube, length-cube S strokes) in
-      record {
-        marked = marked;
-        listed = ap (_+ 1) marked ∙ sym (listing-lines S cube);
-        totalled = ap (newCellsOf S strokes +_) (count-unmarked cube) ∙ all-cells;
-      }
+add-up-to-marked : (S : ℕ) (strokes : List Stroke) → AddUpToMarked S strokes
+add-up-to-marked S strokes = record {
+  marked = new-marked S strokes;
+  listed = ap (_+ 1) (new-marked S strokes) ∙ sym (listing-lines S (cubeOf S strokes));
+  totalled = ap (newCellsOf S strokes +_) (count-unmarked (cubeOf S strokes)) ∙ new-or-unmarked S strokes;
+}
 
 pub claim : Claim
 claim = record { drawing = turns-to-marked; sheet = add-up-to-marked }

@@ -20,7 +20,7 @@ use Rattle.sheet.specs.Printed.{cubeOf}
 use Rattle.sheet_cube.specs.Lines.{found}
 use Rattle.sheet_cube.proofs.Judged.{passes}
 use Rattle.sheet_cube.proofs.Drawing.{Each, good-strokes, good-sheet}
-use Rattle.sheet_cube.proofs.Called.{length-cube}
+use Rattle.sheet.proofs.NewCells.{length-cube}
 use Rattle.totals.specs.Sums.{Bytes}
 use Rattle.totals.specs.Printed.{totalsPrinted, totalsOutput}
 use Rattle.totals.proofs.Sums.{counts-add-up, sums-add-up}

@@ -1,5 +1,5 @@
 -- The lines of a listing: the heading and one for each marked cell. A number in columns has no line feed, so numbers in a
--- line are one line. And a cell is marked or unmarked.
+-- line are one line.
 use mathlib.Core.Path.{_≡_, refl, _∙_, ap}
 use mathlib.Core.Bool.{Bool, true, false, cond}
 use mathlib.Core.List.{List, [], _∷_, _++_}
@@ -10,7 +10,6 @@ use lib.ListN.{length, replicate, take}
 use borrow.Author.Tests.{ne-eqb}
 use Rattle.decide.specs.Some.{someOf}
 use Rattle.decide.proofs.Truth.{both-false}
-use Rattle.drawing.specs.NewCells.{unmarkedCells}
 use Rattle.sheet.specs.Field.{inColumns}
 use Rattle.sheet.specs.Line.{before, lines, inLine, asLine}
 use Rattle.sheet.specs.Printed.{cellLine, cellLines, heading, listing, markedCells}
@@ -86,13 +85,3 @@ cells-lines S p (mark ∷ grid) = by-test (eqb mark 0) (cells-lines S (suc p) gr
 pub listing-lines : (S : ℕ) (grid : List ℕ) → length (lines (listing S grid)) ≡ markedCells grid + 1
 unfolding listing
 listing-lines S grid = ap length (heading-line (cellLines S 0 grid)) ∙ omega (arith, cells-lines S 0 grid)
-
--- Marked and unmarked cells are all cells.
-pub marked-or-not : (grid : List ℕ) → markedCells grid + unmarkedCells grid ≡ length grid
-unfolding markedCells unmarkedCells
-marked-or-not [] = refl
-marked-or-not (mark ∷ grid) = omega (arith, marked-or-not grid, one (eqb mark 0))
-  where
-    one : (b : Bool) → cond b 0 1 + cond b 1 0 ≡ 1
-    one true = refl
-    one false = refl

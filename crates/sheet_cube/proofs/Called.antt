@@ -7,15 +7,14 @@ use native.Mathlib.Nat.{mul-le-mul}
 use native.Mathlib.Omega.{arith}
 use lib.Dec.{eqb}
 use borrow.Author.Tests.{ne-eqb}
-use lib.ListN.{length, take, drop, replicate, length-replicate}
+use lib.ListN.{length, take, drop}
 use lib.Seq.{take-at, length-take-le}
 use Rattle.decide.proofs.Truth.{decided, equal}
 use Rattle.cube.specs.Cube.{volume}
-use Rattle.drawing.specs.Drawing.{drawn, inTurn}
-use Rattle.drawing.proofs.Drawn.{length-drawn}
-use Rattle.sheet.specs.Sheet.{Stroke, objectOf, Judged, good, bad, judge}
+use Rattle.sheet.specs.Sheet.{Stroke, Judged, good, bad, judge}
 use Rattle.sheet.specs.Printed.{cubeOf}
 use Rattle.sheet.proofs.Sheet.{bad-small}
+use Rattle.sheet.proofs.NewCells.{length-cube}
 use Rattle.sheet.specs.Call.{judgeCall, newCellsOf, Said, drew, refused, said, bufferAfter}
 use Rattle.sheet_cube.specs.declared.judge.Size.{Size}
 use Rattle.sheet_cube.specs.declared.Refusal.{Refusal}
@@ -25,17 +24,6 @@ use Rattle.sheet_cube.specs.Answer.{saidOf, DrawsSheet}
 use Rattle.sheet_cube.specs.Lines.{Found, sized, fault, found}
 use Rattle.sheet_cube.proofs.Judged.{good≢bad}
 use Rattle.sheet_cube.proofs.Drawing.{is-good, GoodSheet, good-sheet, whole-buffer}
-
--- A cube keeps its length.
-length-turn : (S : ℕ) (strokes : List Stroke) (grid : List ℕ) →
-    length (inTurn (λ s. drawn S (objectOf s)) strokes grid) ≡ length grid
-unfolding inTurn
-length-turn S [] grid = refl
-length-turn S (s ∷ ss) grid = length-turn S ss (drawn S (objectOf s) grid) ∙ length-drawn S (objectOf s) grid
-
-pub length-cube : (S : ℕ) (strokes : List Stroke) → length (cubeOf S strokes) ≡ volume S
-unfolding cubeOf
-length-cube S strokes = length-turn S strokes (replicate (volume S) 0) ∙ length-replicate (volume S) 0
 
 module _ (input buffer : List ℕ) where
   -- A buffer of 64000 bytes leaves it to the lines; any other is refused.

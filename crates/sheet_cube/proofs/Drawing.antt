@@ -13,11 +13,12 @@ use Rattle.cube.specs.Cube.{volume}
 use Rattle.drawing.specs.Drawing.{drawn, inTurn}
 use Rattle.drawing.specs.NewCells.{unmarkedCells, newInTurn}
 use Rattle.drawing.proofs.Drawn.{length-drawn}
-use Rattle.drawing.proofs.NewCells.{unmarked-cleared, new-of, drawn-at-most, turns-new}
+use Rattle.drawing.proofs.NewCells.{new-of}
 use Rattle.sheet.specs.Line.{lines, number}
 use Rattle.sheet.specs.Sheet.{Stroke, strokeOf, objectOf, sideOrder, curveOrder, Judged, good, bad, judgeCurves, judge}
 use Rattle.sheet.specs.Printed.{cubeOf}
 use Rattle.sheet.specs.Call.{newCellsOf, drew, said, bufferAfter}
+use Rattle.sheet.proofs.NewCells.{new-at-most}
 use Rattle.sheet_lines.specs.Read.{firstLine}
 use Rattle.sheet_cube.specs.Lines.{Found, sized, fault, found}
 use Rattle.sheet_cube.proofs.Judged.{Passes, passes, passes-side, side-refused, side-accepted, strokesOf, Left, good-first, good-all, good≢bad}
@@ -128,16 +129,6 @@ pub record DrawnSoFar (input : List ℕ) (S i : ℕ) (cube : List ℕ) (new : �
   pub sum :
       new + newInTurn (λ s. drawn S (objectOf s)) (map strokeOf (lines (rest input i))) cube ≡ newCellsOf S (strokesOf input)
   pub whole : length cube ≡ volume S
-
--- A sheet's new cells are cells of its cube.
-new-at-most : (S : ℕ) (strokes : List Stroke) → newCellsOf S strokes ≤ volume S
-unfolding newCellsOf
-new-at-most S strokes =
-    omega (
-      arith,
-      turns-new (λ s. drawn S (objectOf s)) (λ s. drawn-at-most S (objectOf s)) strokes (replicate (volume S) 0),
-      unmarked-cleared (volume S),
-    )
 
 module _ {input : List ℕ} {S n : ℕ} (sheet : GoodSheet input S n) where
   pub none-drawn : (cube : List ℕ) → length cube ≡ volume S → DrawnSoFar input S 0 (replicate (length cube) 0) 0

@@ -13,7 +13,7 @@ use Rattle.sheet.specs.Printed.{cubeOf, refusalLine}
 use Rattle.sheet.specs.Call.{bufferAfter}
 use Rattle.sheet.proofs.Printed.{length-refusalLine}
 use Rattle.sheet_cube.specs.Lines.{found}
-use Rattle.sheet_cube.proofs.Called.{length-cube}
+use Rattle.sheet.proofs.NewCells.{length-cube}
 use Rattle.sheet_cube.proofs.Drawing.{good-sheet}
 use Rattle.sheet_program.specs.declared.Drawing.{Drawing}
 use Rattle.sheet_program.specs.declared.Drawing.the-variants.{Cube, Line}
