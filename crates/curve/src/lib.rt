@@ -53,10 +53,8 @@ pub fn draw_curve(side: u32, curve: Curve, grid: &mut [u8]) -> DrawAnswer
         Verdict::Refused(k) => DrawAnswer::Refused(k),
         Verdict::Accepted => {
             let new_cells = samples::mark_samples(side, curve, grid);
-            DrawAnswer::Accepted(Drawn {
-                samples: curve.steps + 1, // samples 0 to n
-                new_cells,
-            })
+            let samples = curve.steps + 1; // samples 0 to n
+            DrawAnswer::Accepted(Drawn { samples, new_cells })
         }
     }
 }

@@ -40,10 +40,8 @@ pub fn draw_patch(side: u32, patch: Patch, grid: &mut [u8]) -> DrawAnswer
         Verdict::Refused(k) => DrawAnswer::Refused(k),
         Verdict::Accepted => {
             let new_cells = rows::mark_rows(side, patch, grid);
-            DrawAnswer::Accepted(Drawn {
-                samples: (patch.n + 1) * (patch.m + 1),
-                new_cells,
-            })
+            let samples = (patch.n + 1) * (patch.m + 1);
+            DrawAnswer::Accepted(Drawn { samples, new_cells })
         }
     }
 }

@@ -39,8 +39,8 @@ mark-samples-requires : tie.Need-mark-samples-requires
 mark-samples-requires c κs =
     let b = c .before .before .before in draw-is-accepted _ _ (now (s b .args .grid)) _ (judged b) (c .before .enum-told .given .1)
 
-add-t14 : tie.Need-add-t14
-add-t14 c =
+add-samples : tie.Need-add-samples
+add-samples c =
     let t = c .before .before .before .before .before in
     let b = t .before .before in
     let d = draw-accepted _ _ _ .0 (draw-is-accepted _ _ (now (s b .args .grid)) _ (judged b) (t .enum-told .given .1)) .0 in
@@ -72,7 +72,7 @@ draw-curve-spec =
     enum-known-k
     enum-told
     mark-samples-requires
-    add-t14
+    add-samples
     returns
     same-length
     returns-2)

@@ -49,14 +49,14 @@ mark-rows-requires : tie.Need-mark-rows-requires
 mark-rows-requires c κs =
     let b = c .before .before .before in draw-is-accepted _ _ (now (s b .args .grid)) _ (judged b) (c .before .enum-told .given .1)
 
-add-t14 : tie.Need-add-t14
-add-t14 c = let n = counts (c .before .before .before) in record { fits = omega arith }
+add-samples : tie.Need-add-samples
+add-samples c = let n = counts (c .before .before .before) in record { fits = omega arith }
 
-add-t15 : tie.Need-add-t15
-add-t15 c = let n = counts (c .before .before .before .before) in record { fits = omega arith }
+add-samples-2 : tie.Need-add-samples-2
+add-samples-2 c = let n = counts (c .before .before .before .before) in record { fits = omega arith }
 
-mul-t16 : tie.Need-mul-t16
-mul-t16 c =
+mul-samples : tie.Need-mul-samples
+mul-samples c =
     let n = counts (c .before .before .before .before) in
     let p = s (c .before .before .before .before .before .before .before .before) .args .patch in
     let h : p .n + 1 ≤ 257 = omega arith in
@@ -89,9 +89,9 @@ draw-patch-spec =
     enum-known-k
     enum-told
     mark-rows-requires
-    add-t14
-    add-t15
-    mul-t16
+    add-samples
+    add-samples-2
+    mul-samples
     returns
     same-length
     returns-2)
