@@ -1,5 +1,6 @@
-/* Draws K12's patch, x of g(i, j) = i + j with n = m = 4, and prints the cells of its row 2. y and z are chosen so that
-   row 2 has a line of the cube of its own: y of g(i, j) = j, z = 2 for j = 2 and 0 otherwise; its line is y = 1, z = 1. */
+/* Draws K12's patch, x of g(i, j) = i + j with n = m = 4, and prints how many cells are new and the cells of its row 2.
+   y and z are chosen so that row 2 has a line of the cube of its own: y of g(i, j) = j, z = 2 for j = 2 and 0 otherwise;
+   its line is y = 1, z = 1. Drawn once more with another mark, the patch has no new cell. */
 #include "gidzkhalu.h"
 #include <stdio.h>
 
@@ -15,7 +16,8 @@ int main(void) {
             p[2] = j == 2 ? 2 : 0;
         }
     }
-    int64_t answer = gidzkhalu_draw_patch(SIDE, points, sizeof points, 4, 4, 7, grid, sizeof grid);
+    uint32_t new_cells;
+    int64_t answer = gidzkhalu_draw_patch(SIDE, points, sizeof points, 4, 4, 7, grid, sizeof grid, &new_cells);
     if (answer == -GIDZKHALU_REFUSED_LONG_STEP) {
         printf("refused: too few steps\n");
         return 1;
@@ -24,12 +26,14 @@ int main(void) {
         printf("refused: %d\n", (int)-answer);
         return 1;
     }
-    printf("%d samples; row 2 marks x =", (int)answer);
+    printf("%d samples, %d new cells; row 2 marks x =", (int)answer, (int)new_cells);
     for (int x = 0; x < SIDE; x++) {
         if (grid[x + SIDE * 1 + SIDE * SIDE * 1] != 0) {
             printf(" %d", x);
         }
     }
     printf("\n");
+    gidzkhalu_draw_patch(SIDE, points, sizeof points, 4, 4, 8, grid, sizeof grid, &new_cells);
+    printf("drawn once more: %d new cells\n", (int)new_cells);
     return 0;
 }

@@ -1,13 +1,14 @@
 /* The key box for C. Link with libexports.a, which `rt staticlib exports` writes to target/staticlib/.
 
    Every function answers one signed number: a count (0 or more), or minus the number of the first refusal that applies.
-   A refused call changes nothing that is lent to it, but for the line that a refused sheet writes into its detail.
+   A refused call changes nothing that is lent to it, but for the line that a refused sheet writes into *detail.
    Nothing is kept between calls, no heap is taken, and of other functions only memset is called.
 
    What the caller must keep:
      - x86-64 with the System V calling convention, the alignment of the stack included.
-     - Each pointer is valid for the length beside it. What is written is not also read or written elsewhere during the
-       call, and the buffers of one call do not overlap.
+     - Each buffer's pointer is valid for the length beside it. new_cells and detail have no length: each points at one
+       uint32_t, aligned as one, and is never NULL, whatever the call answers. What is written is not also read or written
+       elsewhere during the call, and nothing that one call is lent overlaps.
      - Where a function says "Environment: default", the default floating-point environment: round to nearest,
        subnormals kept (in MXCSR neither flush-to-zero nor denormals-are-zero; a program linked with -ffast-math may begin
        with both), every exception masked. Under another one gidzkhalu_to_cell and gidzkhalu_half_way may accept what is
@@ -19,7 +20,8 @@
      - Any length, side, count, mark, coordinate, kind or f32 may be passed; what is wrong is refused.
      - NULL may be passed with the length 0, for every buffer: nothing is read or written through it.
      - No buffer needs an alignment.
-     - Any number of threads may call at once, each with buffers of its own; what is only read may be shared.
+     - *new_cells and *detail may hold anything before a call.
+     - Any number of threads may call at once, each with its own of all that is written; what is only read may be shared.
 
    Stack: the most bytes that a call takes, as `bash tests/stack.sh` measures them on a painted stack. The return address
    is counted; arguments that the caller passes on the stack and what memset takes itself are not.
@@ -54,7 +56,7 @@ enum {
     GIDZKHALU_REFUSED_PAST_LAST_LINE = 44,  /* a byte after the 200th curve line */
     /* Of this interface alone, tried before all others, 51 and 53 before 52. */
     GIDZKHALU_REFUSED_RECORD_LENGTH = 51,   /* a curve's points are not 12 bytes, a patch's not 48 */
-    GIDZKHALU_REFUSED_OUT_LENGTH = 52,      /* a cell is not 3 bytes, channels not 12, a detail not 1 */
+    GIDZKHALU_REFUSED_OUT_LENGTH = 52,      /* a cell is not 3 bytes, channels not 12 */
     GIDZKHALU_REFUSED_KIND = 53,            /* a kind of swatch that does not exist, above 2 */
     /* Of the refusal line, here and in Rattle. */
     GIDZKHALU_REFUSED_NUMBER = 54           /* a number or a line that five columns do not hold, above 99999 */
@@ -81,7 +83,6 @@ enum {
     GIDZKHALU_CELL_BYTES = 3,               /* a cell, exactly */
     GIDZKHALU_CHANNELS_BYTES = 12,          /* three f32, exactly */
     GIDZKHALU_SHEET_BUFFER_BYTES = 64000,   /* a sheet's buffer, exactly */
-    GIDZKHALU_DETAIL_BYTES = 1,             /* a sheet's detail, exactly */
     GIDZKHALU_LISTING_LINE_BYTES = 21,      /* the heading, and each line of a listing */
     GIDZKHALU_TOTALS_LINE_BYTES = 51,       /* each line of totals */
     GIDZKHALU_TOTALS_BYTES = 13056,         /* a text for totals, at least: 256 lines */
@@ -96,6 +97,10 @@ enum {
 
 /* At each function, "Answer" is that of an accepted call, and "Refusals" are the numbers that it can answer minus, in the
    order in which they are tried. */
+
+/* Drawings: a cell whose byte is 0 is unmarked. An accepted drawing writes into *new_cells how many cells it turned from
+   unmarked to marked: a cell is counted once, however many samples fall in it, and a mark written over another mark is not
+   new. A refused one leaves *new_cells as it was. */
 
 /* Curves: points has x y z of points 0 to 3, 12 bytes. A cell (x, y, z) stands at byte x + side y + side side z. The cell
    of a sample has on each axis the whole number c with c - 1/2 < value <= c + 1/2. The cells of neighbouring samples, of a
@@ -113,11 +118,12 @@ int64_t gidzkhalu_check_curve(uint32_t side, const uint8_t *points, size_t point
 int64_t gidzkhalu_list_curve(uint32_t side, const uint8_t *points, size_t points_len, uint32_t steps,
                              uint8_t *list, size_t list_len);
 
-/* Writes the mark in the cell of each sample. Answer: steps + 1.
+/* Writes the mark in the cell of each sample, and the count of new cells, from 0 to steps + 1, into *new_cells. Answer:
+   steps + 1.
    Refusals: 51, 11, 21, 12, 13, 14, 15.
    Stack: 241 bytes. Instructions: 30076. Environment: any. */
 int64_t gidzkhalu_draw_curve(uint32_t side, const uint8_t *points, size_t points_len, uint32_t steps, uint8_t mark,
-                             uint8_t *grid, size_t grid_len);
+                             uint8_t *grid, size_t grid_len, uint32_t *new_cells);
 
 /* Patches: points has x y z of points 0 to 15, 48 bytes; g(i, j), i along t and j along u, is point 4 i + j. n steps
    along t, m along u. */
@@ -127,11 +133,12 @@ int64_t gidzkhalu_draw_curve(uint32_t side, const uint8_t *points, size_t points
    Stack: 856 bytes. Instructions: 3379131. Environment: any. */
 int64_t gidzkhalu_check_patch(uint32_t side, const uint8_t *points, size_t points_len, uint32_t n, uint32_t m);
 
-/* Writes the mark in the cell of each sample. Answer: (n + 1) (m + 1).
+/* Writes the mark in the cell of each sample, and the count of new cells, from 0 to (n + 1) (m + 1), into *new_cells.
+   Answer: (n + 1) (m + 1).
    Refusals: 51, 11, 21, 12, 13, 14, 15.
    Stack: 1688 bytes. Instructions: 5512461. Environment: any. */
 int64_t gidzkhalu_draw_patch(uint32_t side, const uint8_t *points, size_t points_len, uint32_t n, uint32_t m,
-                             uint8_t mark, uint8_t *grid, size_t grid_len);
+                             uint8_t mark, uint8_t *grid, size_t grid_len, uint32_t *new_cells);
 
 /* Swatches: kind 0 is a colour, kind 1 a grey, kind 2 a hue with its saturation and value. A swatch's refusals, in the
    order in which they are tried:
@@ -157,14 +164,14 @@ int64_t gidzkhalu_half_way(uint32_t kind, float a, float b, float c, uint32_t ki
 /* Sheets. */
 
 /* Draws a sheet into the first side x side x side bytes of the buffer, cleared first; the rest keeps what it held. Writes
-   the side into the one byte of detail, or where the sheet is refused the line (0 for 21). Answer: the number of curve
+   the side into *detail, and the new cells of its curve lines added up, which are the marked cells of its cube, into
+   *new_cells. A refused sheet writes its line (0 for 21) into *detail and leaves *new_cells. Answer: the number of curve
    lines.
-   Refusals: 52 (the detail is not 1 byte, and is left), 21; then of line 1: 41, 42, 11, 43; then of each later line in
-   turn: 44, 41, 42, 12, 13, 14, 15.
+   Refusals: 21; then of line 1: 41, 42, 11, 43; then of each later line in turn: 44, 41, 42, 12, 13, 14, 15.
    memset is called for at most 64000 bytes. An input that goes on after 200 curve lines takes no longer.
    Stack: 337 bytes. Instructions: 6282518. Environment: any. */
 int64_t gidzkhalu_draw_sheet(const uint8_t *input, size_t input_len, uint8_t *buffer, size_t buffer_len,
-                             uint8_t *detail, size_t detail_len);
+                             uint32_t *detail, uint32_t *new_cells);
 
 /* Writes the part of a cube's listing for count places from byte first on from the front of the text and leaves the
    rest; the part from byte 0 begins with the heading. Parts in turn, the first not empty, are the whole listing. Places
