@@ -590,7 +590,7 @@ static void spoil_numbers(uint32_t *number, uint32_t side, unsigned faults) {
 /* Of the lines that are not trivial one in eight of a short sheet may have too few steps. */
 static void random_numbers(uint32_t *number, uint32_t side, int trivial, int large) {
     uint8_t points[64];
-    struct object_call curve = {CHECK, 0, side, 1, 0, 0, points, 12, NULL, 0};
+    struct object_call curve = {CHECK, 0, side, 1, 0, 0, points, 12, NULL, 0, NULL};
     random_points(points, 0, side, 0);
     for (int k = 3; trivial && k < 12; k++)
         points[k] = points[k % 3];
@@ -700,6 +700,11 @@ void random_cube(uint8_t *cube, size_t len) {
     case 4:
     case 5:
         random_bytes(cube, len);
+        break;
+    case 6:
+        random_bytes(cube, len);
+        for (size_t k = 0; k < len; k++)
+            cube[k] = cube[k] < 128 ? 0 : cube[k];
         break;
     default:
         scattered_marks(cube, len);

@@ -53,7 +53,8 @@ enum { SHEET_ROOM = 16000 };
 /* Writes a sheet, often with one or two faults; answers its length. */
 size_t random_sheet(uint8_t *text, int large);
 
-/* The bytes of a cube: any, none, few or many marks, one everywhere, each in turn, or no cell unmarked. */
+/* The bytes of a cube: any, none, few or many marks, half of its cells, one everywhere, each in turn, or no cell
+   unmarked. */
 void random_cube(uint8_t *cube, size_t len);
 
 #endif

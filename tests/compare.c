@@ -20,8 +20,7 @@ static uint8_t *renewed(uint8_t *inner, size_t shift, size_t len) {
     return whole + GUARD + shift;
 }
 
-void lend(struct lent *l, size_t len) {
-    size_t shift = below(SHIFTS);
+static void lend_shifted(struct lent *l, size_t len, size_t shift) {
     if (l->got == NULL || l->room < len) {
         l->got = renewed(l->got, l->shift, len);
         l->want = renewed(l->want, l->shift, len);
@@ -35,6 +34,8 @@ void lend(struct lent *l, size_t len) {
     memcpy(l->got - GUARD, l->want - GUARD, len + 2 * GUARD);
 }
 
+void lend(struct lent *l, size_t len) { lend_shifted(l, len, below(SHIFTS)); }
+
 void lend_bytes(struct lent *l, const uint8_t *bytes, size_t len) {
     lend(l, len);
     memcpy(l->want, bytes, len);
@@ -46,6 +47,14 @@ void lend_cube(struct lent *l, size_t len) {
     random_cube(l->want, len);
     memcpy(l->got, l->want, len);
 }
+
+void lend_number(struct lent *l) {
+    uint32_t no_count = 0x80000000 | random_word();
+    lend_shifted(l, sizeof no_count, sizeof no_count * below(SHIFTS / sizeof no_count));
+    *number_at(l->got) = *number_at(l->want) = no_count;
+}
+
+uint32_t *number_at(uint8_t *bytes) { return (uint32_t *)(void *)bytes; }
 
 int same(const struct lent *l) { return memcmp(l->got - GUARD, l->want - GUARD, l->len + 2 * GUARD) == 0; }
 
@@ -126,6 +135,11 @@ void print_difference(const struct lent *l) {
     if (at < GUARD || at >= GUARD + l->len)
         printf(" (a guard byte)");
     printf(": expected %d, came %d\n", want[at], got[at]);
+}
+
+void print_number(const struct lent *l) {
+    printf("  %s: expected %" PRIu32 ", came %" PRIu32 "\n", l->name, *number_at(l->want), *number_at(l->got));
+    print_difference(l);
 }
 
 void print_bytes(const char *name, const uint8_t *bytes, size_t len) {

@@ -19,6 +19,12 @@ void lend(struct lent *lent, size_t len);
 void lend_bytes(struct lent *lent, const uint8_t *bytes, size_t len);
 void lend_cube(struct lent *lent, size_t len);
 
+/* Lends one uint32_t, aligned as one, that holds a random value from 2^31 on: no count of cells, side or line. */
+void lend_number(struct lent *lent);
+
+/* A lent number, of the library (got) or of the reference (want). */
+uint32_t *number_at(uint8_t *bytes);
+
 /* Whether both hold the same, guard bytes included. */
 int same(const struct lent *lent);
 
@@ -30,6 +36,7 @@ int index_of(int number);
 
 struct counts {
     uint64_t answered[NUMBERS], over[NUMBERS][NUMBERS]; /* over: answered while another applied as well */
+    uint64_t new_cells, left; /* counts of new cells compared: of accepted drawings, and left by refused ones */
 };
 
 void count_order(struct counts *counts, const struct order *order);
@@ -66,6 +73,23 @@ void count_order(struct counts *counts, const struct order *order);
     X(LIST_EXACT, "accepted lists of exactly 3 (n + 1) bytes")                                                         \
     X(LIST_SHORT, "22 for a list one byte short")                                                                      \
     X(ENDS_HALF, "curves listed from both ends with a sample on a half")                                               \
+    X(CURVE_UNMARKED, "curves drawn into an unmarked grid")                                                            \
+    X(CURVE_HALF_MARKED, "curves drawn into a grid of which 2 to 3 fifths are marked, some cells new and some not")    \
+    X(CURVE_MARKED, "curves drawn into a grid without an unmarked cell")                                               \
+    X(PATCH_UNMARKED, "patches drawn into an unmarked grid")                                                           \
+    X(PATCH_HALF_MARKED, "patches drawn into a grid of which 2 to 3 fifths are marked, some cells new and some not")   \
+    X(PATCH_MARKED, "patches drawn into a grid without an unmarked cell")                                              \
+    X(ALL_SAMPLES_NEW, "drawings with a new cell for every sample")                                                    \
+    X(GRID_FILLED, "drawings that leave no cell unmarked, some new")                                                   \
+    X(ONE_CELL_NEW, "curves with all samples in one cell, a new one")                                                  \
+    X(ONE_CELL_MARKED, "curves with all samples in one cell, a marked one")                                            \
+    X(COMES_BACK, "curves that come back to a new cell")                                                               \
+    X(CURVE_AGAIN, "curves drawn over themselves with their mark: no new cell")                                        \
+    X(CURVE_OTHER_MARK, "curves drawn over themselves with another mark: no new cell")                                 \
+    X(PATCH_AGAIN, "patches drawn over themselves: no new cell")                                                       \
+    X(CURVES_CROSS, "curves over part of another, with new cells and a half or less of their cells on it")             \
+    X(CURVE_OVER_PATCH, "curves over part of a patch, with new cells")                                                 \
+    X(PATCH_OVER_CURVE, "patches over part of a curve, with new cells")                                                \
     X(GRID_SHORT, "21 for a grid one byte short")                                                                      \
     X(GRID_LONG, "21 for a grid one byte long")                                                                        \
     X(CHANNEL_HALF, "accepted swatches with a channel on a half")                                                      \
@@ -108,6 +132,10 @@ void count_order(struct counts *counts, const struct order *order);
     X(MIX_MINUS_ZERO, "half-way channels of minus zero, one swatch a hue")                                             \
     X(SHEET_200, "accepted sheets of 200 curve lines")                                                                 \
     X(SHEET_SIDE_40, "accepted sheets of side 40")                                                                     \
+    X(SHEET_NO_CURVE, "accepted sheets without a curve line: no new cell")                                             \
+    X(SHEET_APART, "accepted sheets of two curve lines or more without a cell of two")                                 \
+    X(SHEET_OVERLAPS, "accepted sheets with cells of two curve lines or more")                                         \
+    X(SHEET_COVERED, "accepted sheets with a curve line that has no new cell")                                         \
     X(PART_HEADING, "parts that begin with the heading")                                                               \
     X(PART_PAST, "parts that begin past the cube")                                                                     \
     X(TOTALS_SIDE_2, "totals of side 2")                                                                               \
@@ -128,7 +156,6 @@ void count_order(struct counts *counts, const struct order *order);
     X(NULL_CHANNELS, "NULL for channels of length 0")                                                                  \
     X(NULL_INPUT, "NULL for an input of length 0")                                                                     \
     X(NULL_BUFFER, "NULL for a sheet's buffer of length 0")                                                            \
-    X(NULL_DETAIL, "NULL for a detail of length 0")                                                                    \
     X(NULL_CUBE, "NULL for a cube of length 0")                                                                        \
     X(NULL_TEXT, "NULL for a text of length 0")                                                                        \
     X(LIST_OF_THREE, "lists with three accepted calls or more")
@@ -155,6 +182,7 @@ extern struct running running;
 
 void print_failure(int64_t want, int64_t got);
 void print_difference(const struct lent *lent);
+void print_number(const struct lent *lent);
 void print_bytes(const char *name, const uint8_t *bytes, size_t len);
 
 /* Shows the bytes that are not 0, at most 200. */

@@ -1,5 +1,6 @@
-/* Runs seeded random calls of the C interface against the exact reference of reference.h and compares every answer and
-   every byte of every buffer, with guard bytes on both sides. Usage: differential [seed [scale [kind number]]] */
+/* Runs seeded random calls of the C interface against the exact reference of reference.h and compares every answer,
+   every byte of every buffer and every number written, with guard bytes on both sides. Usage:
+   differential [seed [scale [kind number]]] */
 #include "cases.h"
 #include "compare.h"
 #include "gidzkhalu.h"
@@ -14,7 +15,7 @@
 
 static struct lent points = {.name = "points"}, grid = {.name = "grid or list"}, small = {.name = "cell or channels"},
                    input = {.name = "input"}, buffer = {.name = "buffer"}, detail = {.name = "detail"},
-                   cube = {.name = "cube"}, text = {.name = "text"};
+                   new_cells = {.name = "new cells"}, cube = {.name = "cube"}, text = {.name = "text"};
 
 /* Curves and patches */
 
@@ -38,12 +39,12 @@ static int64_t library_object(const struct object_call *c) {
     if (c->patch && c->service == CHECK)
         return gidzkhalu_check_patch(c->side, p, len, c->n, c->m);
     if (c->patch)
-        return gidzkhalu_draw_patch(c->side, p, len, c->n, c->m, c->mark, c->lent, c->lent_len);
+        return gidzkhalu_draw_patch(c->side, p, len, c->n, c->m, c->mark, c->lent, c->lent_len, c->new_cells);
     if (c->service == CHECK)
         return gidzkhalu_check_curve(c->side, p, len, c->n);
     if (c->service == LIST)
         return gidzkhalu_list_curve(c->side, p, len, c->n, c->lent, c->lent_len);
-    return gidzkhalu_draw_curve(c->side, p, len, c->n, c->mark, c->lent, c->lent_len);
+    return gidzkhalu_draw_curve(c->side, p, len, c->n, c->mark, c->lent, c->lent_len, c->new_cells);
 }
 
 static int any_coordinate(const struct object_call *c, uint32_t value) {
@@ -104,25 +105,60 @@ static void meet_refused_object(const struct object_call *c, int64_t answer) {
     meet(STEP_ABOVE_ONE, answer == -15 && 50 * longest_step(&samples) < 51 * samples.scale);
 }
 
+/* Counts of new cells that were compared. */
+static void count_drawing(int64_t answer) {
+    running.counts->new_cells += answer >= 0;
+    running.counts->left += answer < 0;
+}
+
+/* Compares the count of a drawing; unmarked is the number of unmarked cells of its grid before it. Those that the library
+   counts in an accepted one are no more than its samples, its different cells and the unmarked cells. */
+static int compare_new_cells(const struct object_call *c, int64_t answer, size_t unmarked) {
+    uint32_t count = *number_at(new_cells.got);
+    size_t cells;
+    count_drawing(answer);
+    if (answer < 0)
+        return same(&new_cells);
+    cells = different_cells(&samples, c->side);
+    meet(c->patch ? PATCH_UNMARKED : CURVE_UNMARKED, unmarked == grid.len);
+    meet(c->patch ? PATCH_HALF_MARKED : CURVE_HALF_MARKED,
+         2 * grid.len <= 5 * unmarked && 5 * unmarked <= 3 * grid.len && 0 < count && count < cells);
+    meet(c->patch ? PATCH_MARKED : CURVE_MARKED, unmarked == 0);
+    meet(ALL_SAMPLES_NEW, count == (uint64_t)answer);
+    meet(GRID_FILLED, count > 0 && count == unmarked);
+    meet(ONE_CELL_NEW, !c->patch && cells == 1 && count == 1);
+    meet(ONE_CELL_MARKED, !c->patch && cells == 1 && count == 0);
+    meet(COMES_BACK, !c->patch && turns(&samples) > cells && count == cells);
+    return same(&new_cells) && count <= (uint64_t)answer && count <= cells && count <= unmarked;
+}
+
 /* Compares one call on the buffers points and grid; *want is the answer that the reference gives. */
 static int compare_object(struct object_call *c, int64_t *want) {
     struct order order = {0};
+    size_t unmarked = c->service == DRAW ? unmarked_cells(grid.want, grid.len) : 0;
     uint64_t apart;
     int64_t got;
+    int agreed;
+    lend_number(&new_cells);
     c->points = points.want;
     c->lent = grid.want;
+    c->new_cells = number_at(new_cells.want);
     *want = reference_object(c, &order, &samples);
     apart = *want >= 0 ? cells_apart(c) : 0;
     c->points = passed(&points, NULL_POINTS);
     if (c->service != CHECK)
         c->lent = passed(&grid, c->service == LIST ? NULL_LIST : NULL_GRID);
+    c->new_cells = number_at(new_cells.got);
     got = library_object(c);
     count_order(running.counts, &order);
     if (*want >= 0)
         meet_accepted_object(c);
     else
         meet_refused_object(c, *want);
-    if (apart == 0 && *want == got && same(&points) && same(&grid))
+    agreed = apart == 0 && *want == got && same(&points) && same(&grid);
+    if (c->service == DRAW)
+        agreed &= compare_new_cells(c, *want, unmarked);
+    if (agreed)
         return 1;
     print_failure(*want, got);
     if (apart > 0)
@@ -131,11 +167,13 @@ static int compare_object(struct object_call *c, int64_t *want) {
     print_object(c);
     print_difference(&points);
     print_difference(&grid);
+    if (c->service == DRAW)
+        print_number(&new_cells);
     return 0;
 }
 
 static int object_case(enum service service, int patch, int large, unsigned faults) {
-    struct object_call c = {service, patch, 0, 0, 0, 0, NULL, 0, NULL, 0};
+    struct object_call c = {service, patch, 0, 0, 0, 0, NULL, 0, NULL, 0, NULL};
     uint8_t record[64];
     int64_t answer;
     c.side = !large ? random_side() : one_in(2) ? 64 : 33 + below(32);
@@ -182,7 +220,7 @@ static int reversed(const uint8_t *list, const uint8_t *back, size_t cells) {
 /* From its other end a curve has the same refusal, or the same cells in reverse order. */
 static int both_ends(void) {
     static uint8_t list[GIDZKHALU_LIST_BYTES(GIDZKHALU_CURVE_STEPS_MOST)];
-    struct object_call c = {LIST, 0, random_side(), 0, 0, 0, NULL, 0, NULL, 0};
+    struct object_call c = {LIST, 0, random_side(), 0, 0, 0, NULL, 0, NULL, 0, NULL};
     uint64_t halves = met[CURVE_HALF_RISING] + met[CURVE_HALF_FALLING];
     uint8_t record[64];
     int64_t there, back;
@@ -350,39 +388,59 @@ static size_t sheet_buffer_length(void) {
     return one_in(2) ? lengths[below(7)] : 63999 + 2 * below(2);
 }
 
+/* The bytes of the cube of an accepted sheet. */
+static size_t sheet_cells(void) { return GIDZKHALU_CUBE_BYTES(*number_at(detail.want)); }
+
+/* Of an accepted sheet, whose count is that of the marked cells of the library's cube. */
+static int compare_sheet_count(int64_t curves, const struct strokes *strokes) {
+    uint32_t count = *number_at(new_cells.got);
+    meet(SHEET_NO_CURVE, curves == 0 && count == 0);
+    meet(SHEET_APART, curves > 1 && count == strokes->cells);
+    meet(SHEET_OVERLAPS, count < strokes->cells);
+    meet(SHEET_COVERED, strokes->without_new > 0);
+    return count <= strokes->cells && count == sheet_cells() - unmarked_cells(buffer.got, sheet_cells());
+}
+
 /* *want is the answer that the reference gives. */
-static int sheet_case(int large, int wrong, int64_t *want) {
+static int sheet_case(int large, int64_t *want) {
     static uint8_t sheet[SHEET_ROOM];
     struct order order = {0};
+    struct strokes strokes;
     int64_t got;
+    int agreed;
     lend_bytes(&input, sheet, random_sheet(sheet, large));
     lend(&buffer, one_in(20) ? sheet_buffer_length() : GIDZKHALU_SHEET_BUFFER_BYTES);
-    lend(&detail, small_length(GIDZKHALU_DETAIL_BYTES, wrong || one_in(40)));
-    *want = reference_draw_sheet(input.want, input.len, buffer.want, buffer.len, detail.want, detail.len, &order);
+    lend_number(&detail);
+    lend_number(&new_cells);
+    *want = reference_draw_sheet(input.want, input.len, buffer.want, buffer.len, number_at(detail.want),
+                                 number_at(new_cells.want), &order, &strokes);
     got = gidzkhalu_draw_sheet(passed(&input, NULL_INPUT), input.len, passed(&buffer, NULL_BUFFER), buffer.len,
-                               passed(&detail, NULL_DETAIL), detail.len);
+                               number_at(detail.got), number_at(new_cells.got));
     count_order(running.counts, &order);
+    count_drawing(*want);
     meet(SHEET_200, *want == 200);
-    meet(SHEET_SIDE_40, *want >= 0 && detail.want[0] == 40);
-    if (*want == got && same(&input) && same(&buffer) && same(&detail))
+    meet(SHEET_SIDE_40, *want >= 0 && *number_at(detail.want) == 40);
+    agreed = *want == got && same(&input) && same(&buffer) && same(&detail) && same(&new_cells);
+    if (agreed && (*want < 0 || compare_sheet_count(*want, &strokes)))
         return 1;
     print_failure(*want, got);
-    printf("  draw_sheet: buffer of %zu bytes, detail of %zu bytes\n", buffer.len, detail.len);
+    printf("  draw_sheet: buffer of %zu bytes\n", buffer.len);
     print_text(input.want, input.len);
     print_difference(&input);
     print_difference(&buffer);
-    print_difference(&detail);
+    print_number(&detail);
+    print_number(&new_cells);
     return 0;
 }
 
 static int draw_sheet(void) {
     int64_t answer;
-    return sheet_case(0, 0, &answer);
+    return sheet_case(0, &answer);
 }
 
 static int large_sheet(void) {
     int64_t answer;
-    return sheet_case(1, 0, &answer);
+    return sheet_case(1, &answer);
 }
 
 /* Listings */
@@ -508,6 +566,24 @@ static int large_listing(void) {
     return one_in(2) ? part_case(side) : joined_case(side);
 }
 
+/* A sheet is drawn, and its cube is listed: the heading and a line for each new cell. */
+static int sheet_listing(void) {
+    int64_t curves, bytes;
+    if (!sheet_case(one_in(100), &curves))
+        return 0;
+    if (curves < 0)
+        return 1;
+    lend_bytes(&cube, buffer.got, sheet_cells());
+    if (!compare_part(*number_at(detail.got), 0, cube.len, GIDZKHALU_PART_BYTES(cube.len), &bytes))
+        return 0;
+    if (bytes == GIDZKHALU_LISTING_LINE_BYTES * (1 + (int64_t)*number_at(new_cells.got)))
+        return 1;
+    print_failure(GIDZKHALU_LISTING_LINE_BYTES * (1 + (int64_t)*number_at(new_cells.got)), bytes);
+    printf("  the listing has not a line for each new cell:\n");
+    print_text(input.want, input.len);
+    return 0;
+}
+
 /* Totals: of a cube, 256 lines at most */
 
 enum { TOTALS_LINE = GIDZKHALU_TOTALS_LINE_BYTES, TOTALS_TEXT = GIDZKHALU_TOTALS_BYTES };
@@ -565,14 +641,12 @@ static int large_totals(void) { return totals_case(large_side()); }
 /* A sheet is drawn, and the totals are those of its cube. */
 static int sheet_totals(void) {
     int64_t curves;
-    uint32_t side;
-    if (!sheet_case(one_in(100), 0, &curves))
+    if (!sheet_case(one_in(100), &curves))
         return 0;
     if (curves < 0)
         return 1;
-    side = detail.want[0];
     meet(TOTALS_SHEET, curves > 1);
-    return compare_totals(side, &buffer, (size_t)side * side * side, totals_text_length(0));
+    return compare_totals(*number_at(detail.want), &buffer, sheet_cells(), totals_text_length(0));
 }
 
 /* Among them 99999 and the next. */
@@ -611,7 +685,6 @@ static int refusal_line(void) {
 /* 51, 52 or 53 for each call that can have them, often with another number that applies. */
 static int wrong_length(void) {
     unsigned faults = BAD_RECORD | random_faults(ALL_FAULTS);
-    int64_t answer;
     switch (below(16)) {
     case 0:
     case 1:
@@ -622,18 +695,89 @@ static int wrong_length(void) {
     case 5:
         return half_way_case(1);
     case 6:
-        return sheet_case(0, 1, &answer);
     case 7:
-    case 8:
         return object_case(one_in(2) ? CHECK : DRAW, 1, 0, faults);
     default:
         return object_case((enum service)below(3), 0, 0, faults);
     }
 }
 
+/* Two drawings into one grid */
+
+enum { CELLS = 64 * 64 * 64 };
+
+/* The different cells of the object compared last that are marked in other. */
+static size_t cells_shared(uint32_t side, uint8_t *other, size_t len) {
+    size_t before = unmarked_cells(other, len);
+    mark_cells(&samples, side, 0, other);
+    return unmarked_cells(other, len) - before;
+}
+
+/* first_cells holds a mark in each cell of the first drawing. */
+static void meet_second(const struct object_call *first, const struct object_call *second, uint8_t *first_cells) {
+    uint32_t count = *number_at(new_cells.got);
+    size_t cells = different_cells(&samples, second->side), marked = grid.len - unmarked_cells(first_cells, grid.len);
+    size_t shared = cells_shared(second->side, first_cells, grid.len);
+    int over_part = 0 < count && 0 < shared && shared < marked;
+    meet(CURVES_CROSS, !first->patch && !second->patch && over_part && 2 * shared <= cells);
+    meet(CURVE_OVER_PATCH, first->patch && !second->patch && over_part);
+    meet(PATCH_OVER_CURVE, !first->patch && second->patch && over_part);
+}
+
+/* Draws the object a second time, over itself: no cell is new. */
+static int drawn_again(struct object_call *c) {
+    uint8_t mark = c->mark;
+    int64_t answer;
+    if (one_in(2))
+        c->mark = (uint8_t)(1 + below(255));
+    meet(PATCH_AGAIN, c->patch);
+    meet(c->mark == mark ? CURVE_AGAIN : CURVE_OTHER_MARK, !c->patch);
+    if (!compare_object(c, &answer))
+        return 0;
+    if (answer >= 0 && *number_at(new_cells.got) == 0)
+        return 1;
+    print_failure(answer, answer);
+    printf("  drawn over itself, an object has new cells:\n");
+    print_object(c);
+    print_number(&new_cells);
+    return 0;
+}
+
+/* Into an unmarked grid, or one that holds marks: an object, then the same or another one. */
+static int drawn_over(void) {
+    static uint8_t first_cells[CELLS];
+    struct object_call first = {DRAW, 0, random_side(), 0, 0, 0, NULL, 0, NULL, 0, NULL}, second = first;
+    uint8_t record[64];
+    int64_t answer;
+    first.patch = one_in(3);
+    random_object(&first, record, 0, 0);
+    lend_bytes(&points, record, first.points_len);
+    lend_cube(&grid, first.lent_len);
+    if (one_in(2)) {
+        memset(grid.want, 0, grid.len);
+        memset(grid.got, 0, grid.len);
+    }
+    if (!compare_object(&first, &answer))
+        return 0;
+    if (answer < 0)
+        return 1;
+    if (one_in(3))
+        return drawn_again(&first);
+    memset(first_cells, 0, grid.len);
+    mark_cells(&samples, first.side, 1, first_cells);
+    second.patch = one_in(3);
+    random_object(&second, record, 0, 0);
+    lend_bytes(&points, record, second.points_len);
+    if (!compare_object(&second, &answer))
+        return 0;
+    if (answer >= 0)
+        meet_second(&first, &second, first_cells);
+    return 1;
+}
+
 /* Lists of calls into one grid: demand 3 */
 
-enum { CALLS = 12, CELLS = 64 * 64 * 64 };
+enum { CALLS = 12 };
 
 static struct object_call calls[CALLS];
 static uint8_t call_points[CALLS][64];
@@ -658,14 +802,16 @@ static int print_list(const char *fault, int length, const uint8_t *start) {
     return 0;
 }
 
-/* Draws call k; if it is accepted, the second sentence holds just after it. Answers what is wrong, or NULL. */
-static const char *fault_of_call(int k) {
+/* Draws call k and adds its new cells; if it is accepted, the second sentence holds just after it. Answers what is wrong,
+   or NULL. */
+static const char *fault_of_call(int k, size_t *added) {
     struct object_call c = calls[k];
     int64_t answer;
     int agreed;
     lend_bytes(&points, call_points[k], c.points_len);
     agreed = compare_object(&c, &answer);
     call_accepted[k] = answer >= 0;
+    *added += answer >= 0 ? *number_at(new_cells.got) : 0;
     if (answer >= 0 && !samples_hold(&samples, c.side, c.mark, grid.got))
         return "demand 3's second sentence does not hold after the last call";
     return agreed ? NULL : "the last call is not the reference's";
@@ -690,17 +836,20 @@ static int list_of_calls(void) {
     static uint8_t start[CELLS];
     uint32_t side = random_side();
     int length = (int)below(CALLS + 1), accepted = 0;
+    size_t added = 0;
     const char *fault;
     lend_cube(&grid, (size_t)side * side * side);
     memcpy(start, grid.got, grid.len);
     for (int k = 0; k < length; k++) {
         random_call(&calls[k], call_points[k], side);
-        fault = fault_of_call(k);
+        fault = fault_of_call(k, &added);
         if (fault != NULL)
             return print_list(fault, k + 1, start);
         accepted += call_accepted[k];
     }
     meet(LIST_OF_THREE, accepted >= 3);
+    if (added != unmarked_cells(start, grid.len) - unmarked_cells(grid.got, grid.len))
+        return print_list("the new cells do not add up", length, start);
     return list_holds(length, start) || print_list("demand 3's first sentence does not hold", length, start);
 }
 
@@ -722,15 +871,18 @@ static int known_failed(const char *name) {
     return 0;
 }
 
+static void lend_known(int k, int axis) {
+    uint8_t record[12] = {0};
+    for (int i = 0; i < 4; i++)
+        record[3 * i + axis] = KNOWN[k].g[i];
+    lend_bytes(&points, record, 12);
+}
+
 static int known_curve(int k, int axis) {
-    struct object_call c = {LIST, 0, 8, 0, 0, 0, NULL, 12, NULL, 64};
+    struct object_call c = {LIST, 0, 8, 0, 0, 0, NULL, 12, NULL, 64, NULL};
     const char *cells = KNOWN[k].cells;
     int64_t answer;
-    lend(&points, 12);
-    memset(points.want, 0, 12);
-    for (int i = 0; i < 4; i++)
-        points.want[3 * i + axis] = KNOWN[k].g[i];
-    memcpy(points.got, points.want, 12);
+    lend_known(k, axis);
     lend(&grid, c.lent_len);
     c.n = KNOWN[k].n;
     if (!compare_object(&c, &answer) || answer != (cells == NULL ? -15 : (int64_t)c.n + 1))
@@ -741,17 +893,40 @@ static int known_curve(int k, int axis) {
     return 1;
 }
 
-/* K12: x of g(i, j) is i + j; row 2 along t. No call lists a patch: the reference has the row, the grids agree. */
-static int known_patch(void) {
-    struct object_call c = {DRAW, 1, 8, 4, 4, 9, NULL, 48, NULL, 512};
+/* What side 8 has unmarked. */
+static const uint8_t UNMARKED[512];
+
+/* Drawn into an unmarked grid, each cell of the curve is new once; drawn again with another mark, none. */
+static int known_drawing(int k, int axis) {
+    struct object_call c = {DRAW, 0, 8, KNOWN[k].n, 0, 9, NULL, 12, NULL, sizeof UNMARKED, NULL};
+    const char *cells = KNOWN[k].cells;
+    uint32_t different = 0;
     int64_t answer;
-    lend(&points, 48);
-    memset(points.want, 0, 48);
+    for (char cell = '0'; cells != NULL && cell <= '7'; cell++)
+        different += strchr(cells, cell) != NULL;
+    lend_known(k, axis);
+    lend_bytes(&grid, UNMARKED, sizeof UNMARKED);
+    if (!compare_object(&c, &answer))
+        return known_failed(KNOWN[k].name);
+    if (cells == NULL)
+        return 1;
+    if (different > 0 && *number_at(new_cells.got) != different)
+        return known_failed(KNOWN[k].name);
+    c.mark = 8;
+    return (compare_object(&c, &answer) && *number_at(new_cells.got) == 0) || known_failed(KNOWN[k].name);
+}
+
+/* K12: x of g(i, j) is i + j; row 2 along t. No call lists a patch: the reference has the row, the grids agree. Its cells
+   are those with x from 0 to 6. */
+static int known_patch(void) {
+    struct object_call c = {DRAW, 1, 8, 4, 4, 9, NULL, 48, NULL, sizeof UNMARKED, NULL};
+    uint8_t record[48] = {0};
+    int64_t answer;
     for (int k = 0; k < 16; k++)
-        points.want[3 * k] = (uint8_t)(k / 4 + k % 4);
-    memcpy(points.got, points.want, 48);
-    lend_cube(&grid, 512);
-    if (!compare_object(&c, &answer) || answer != 25)
+        record[3 * k] = (uint8_t)(k / 4 + k % 4);
+    lend_bytes(&points, record, 48);
+    lend_bytes(&grid, UNMARKED, sizeof UNMARKED);
+    if (!compare_object(&c, &answer) || answer != 25 || *number_at(new_cells.got) != 7)
         return known_failed("K12");
     for (int i = 0; i < 5; i++)
         if (samples.cell[0][2 * 5 + i] != "12344"[i] - '0')
@@ -761,9 +936,9 @@ static int known_patch(void) {
 
 /* Two rows with the x 0 1/2 1 and 1 3/2 2, and the y 0 1 2 of both: what the grid holds at z = 0, y by y. */
 static int known_halves(void) {
-    static const uint8_t x[4] = {0, 0, 1, 1}, y[4] = {0, 1, 1, 2}, unmarked[27] = {0};
+    static const uint8_t x[4] = {0, 0, 1, 1}, y[4] = {0, 1, 1, 2};
     static const uint8_t drawn[27] = {9, 9, 0, 9, 9, 0, 0, 9, 9};
-    struct object_call c = {DRAW, 1, 3, 2, 1, 9, NULL, 48, NULL, 27};
+    struct object_call c = {DRAW, 1, 3, 2, 1, 9, NULL, 48, NULL, 27, NULL};
     uint8_t record[48] = {0};
     int64_t answer;
     for (int k = 0; k < 16; k++) {
@@ -771,8 +946,9 @@ static int known_halves(void) {
         record[3 * k + 1] = y[k / 4];
     }
     lend_bytes(&points, record, 48);
-    lend_bytes(&grid, unmarked, 27);
-    return (compare_object(&c, &answer) && answer == 6 && memcmp(grid.got, drawn, 27) == 0) ||
+    lend_bytes(&grid, UNMARKED, 27);
+    return (compare_object(&c, &answer) && answer == 6 && memcmp(grid.got, drawn, 27) == 0 &&
+            *number_at(new_cells.got) == 6) ||
            known_failed("of a patch with halves in both rows");
 }
 
@@ -808,27 +984,36 @@ static int known_hues(void) {
     return good;
 }
 
-/* What the sheet program prints, or the totals program, by the library and by the reference. */
+/* What the sheet program prints, or the totals program, by the library and by the reference; an accepted sheet has four
+   new cells. */
 static int known_print(const char *sheet, int of_totals, const char *printed) {
     struct order order = {0}, listed = {0};
+    struct strokes strokes;
+    uint32_t of;
     int64_t want, got;
     lend_bytes(&input, (const uint8_t *)sheet, strlen(sheet));
     lend(&buffer, GIDZKHALU_SHEET_BUFFER_BYTES);
-    lend(&detail, GIDZKHALU_DETAIL_BYTES);
+    lend_number(&detail);
+    lend_number(&new_cells);
     lend(&text, TOTALS_TEXT);
-    want = reference_draw_sheet(input.want, input.len, buffer.want, buffer.len, detail.want, detail.len, &order);
-    got = gidzkhalu_draw_sheet(input.got, input.len, buffer.got, buffer.len, detail.got, detail.len);
-    if (want != got || !same(&buffer) || !same(&detail))
+    want = reference_draw_sheet(input.want, input.len, buffer.want, buffer.len, number_at(detail.want),
+                                number_at(new_cells.want), &order, &strokes);
+    got = gidzkhalu_draw_sheet(input.got, input.len, buffer.got, buffer.len, number_at(detail.got),
+                               number_at(new_cells.got));
+    of = *number_at(detail.want);
+    if (want != got || !same(&buffer) || !same(&detail) || !same(&new_cells))
+        return known_failed("of sheets");
+    if (want >= 0 && *number_at(new_cells.got) != 4)
         return known_failed("of sheets");
     if (want < 0) {
-        want = reference_refusal_line((uint32_t)-want, detail.want[0], text.want, text.len, &listed);
-        got = gidzkhalu_refusal_line((uint32_t)-got, detail.got[0], text.got, text.len);
+        want = reference_refusal_line((uint32_t)-want, of, text.want, text.len, &listed);
+        got = gidzkhalu_refusal_line((uint32_t)-got, of, text.got, text.len);
     } else if (of_totals) {
-        want = reference_totals(detail.want[0], buffer.want, 64, text.want, text.len, &listed);
-        got = gidzkhalu_totals(detail.got[0], buffer.got, 64, text.got, text.len);
+        want = reference_totals(of, buffer.want, 64, text.want, text.len, &listed);
+        got = gidzkhalu_totals(of, buffer.got, 64, text.got, text.len);
     } else {
-        want = reference_list_part(detail.want[0], buffer.want, 64, 0, 64, text.want, text.len, &listed);
-        got = gidzkhalu_list_part(detail.got[0], buffer.got, 64, 0, 64, text.got, text.len);
+        want = reference_list_part(of, buffer.want, 64, 0, 64, text.want, text.len, &listed);
+        got = gidzkhalu_list_part(of, buffer.got, 64, 0, 64, text.got, text.len);
     }
     if (want == got && same(&text) && want == (int64_t)strlen(printed) && memcmp(text.got, printed, (size_t)want) == 0)
         return 1;
@@ -855,7 +1040,7 @@ static int document_samples(void) {
         good &= known_grey(side, ONE, (uint8_t)(side - 1));
     for (int k = 0; k < (int)(sizeof KNOWN / sizeof *KNOWN); k++)
         for (int axis = 0; axis < 3; axis++)
-            good &= known_curve(k, axis);
+            good &= known_curve(k, axis) & known_drawing(k, axis);
     return good;
 }
 
@@ -865,8 +1050,8 @@ static const int CHECK_ORDER[] = {51, 11, 13, 14, 15, 0}, LIST_ORDER[] = {51, 11
                  DRAW_ORDER[] = {51, 11, 21, 12, 13, 14, 15, 0}, CELL_ORDER[] = {53, 52, 11, 31, 32, 31, 32, 0},
                  HUE_ORDER[] = {52, 11, 31, 33, 31, 32, 31, 32, 0},
                  HALF_ORDER[] = {53, 52, 31, 33, 31, 32, 31, 33, 31, 32, 0},
-                 SIDE_LINE_ORDER[] = {52, 21, 41, 42, 11, 43, 0},
-                 CURVE_LINE_ORDER[] = {52, 21, 44, 41, 42, 12, 13, 14, 15, 0}, TEXT_ORDER[] = {11, 21, 22, 0},
+                 SIDE_LINE_ORDER[] = {21, 41, 42, 11, 43, 0},
+                 CURVE_LINE_ORDER[] = {21, 44, 41, 42, 12, 13, 14, 15, 0}, TEXT_ORDER[] = {11, 21, 22, 0},
                  LINE_ORDER[] = {54, 22, 0}, RECORD_ORDER[] = {51, 0}, OUT_ORDER[] = {53, 52, 0};
 
 static const struct kind {
@@ -887,10 +1072,12 @@ static const struct kind {
             {"sheet", 1000000, draw_sheet, {SIDE_LINE_ORDER, CURVE_LINE_ORDER}},
             {"part of a listing", 1000000, list_part, {TEXT_ORDER, NULL}},
             {"parts joined", 100000, parts_joined, {NULL, NULL}},
+            {"listing of a sheet", 100000, sheet_listing, {NULL, NULL}},
             {"totals", 500000, totals, {TEXT_ORDER, NULL}},
             {"totals of a sheet", 100000, sheet_totals, {NULL, NULL}},
             {"refusal line", 1000000, refusal_line, {LINE_ORDER, NULL}},
             {"wrong lengths", 1000000, wrong_length, {RECORD_ORDER, OUT_ORDER}},
+            {"drawn over", 500000, drawn_over, {NULL, NULL}},
             {"list of calls", 200000, list_of_calls, {DRAW_ORDER, NULL}},
             {"large curve", 100000, large_curve, {NULL, NULL}},
             {"large patch", 3000, large_patch, {NULL, NULL}},
@@ -916,6 +1103,8 @@ static void print_counts(const struct counts *c) {
             printf("  accepted %" PRIu64, c->answered[k]);
         else if (c->answered[k] > 0)
             printf("  %d: %" PRIu64, NUMBER[k], c->answered[k]);
+    if (c->new_cells + c->left > 0)
+        printf("  new cells %" PRIu64 ", left %" PRIu64, c->new_cells, c->left);
     printf("\n");
 }
 
@@ -991,13 +1180,16 @@ static int print_met(void) {
 
 /* Prints the answers of all kinds; answers the number of calls. */
 static uint64_t print_totals(void) {
-    struct counts total = {{0}, {{0}}};
+    struct counts total = {{0}, {{0}}, 0, 0};
     uint64_t calls_made = 0;
-    for (int kind = 0; kind < KINDS; kind++)
+    for (int kind = 0; kind < KINDS; kind++) {
+        total.new_cells += counted[kind].new_cells;
+        total.left += counted[kind].left;
         for (int k = 0; k < NUMBERS; k++) {
             total.answered[k] += counted[kind].answered[k];
             calls_made += counted[kind].answered[k];
         }
+    }
     printf("all kinds:");
     print_counts(&total);
     return calls_made;
@@ -1042,6 +1234,7 @@ int main(int argc, char **argv) {
     running.seed = argc > 1 ? strtoull(argv[1], NULL, 10) : 1;
     start_run(running.seed);
     signal(SIGSEGV, stopped);
+    signal(SIGABRT, stopped);
     if (argc > 4)
         return run_one(argv[3], strtoull(argv[4], NULL, 10));
     return run_all(scale);

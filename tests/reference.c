@@ -1,6 +1,7 @@
 /* The reference of reference.h. */
 #include "reference.h"
 
+#include <assert.h>
 #include <string.h>
 
 /* The order of refusals */
@@ -190,17 +191,41 @@ static void object_order(const struct object_call *c, struct order *order, struc
     order_add(order, 15, !wrong_record && steps_too_long(c, order, s));
 }
 
-static void write_cells(const struct object_call *c, const struct samples *s) {
-    for (size_t at = 0; at < s->along * s->rows; at++) {
-        int32_t x = s->cell[0][at], y = s->cell[1][at], z = s->cell[2][at];
-        if (c->service == DRAW) {
-            c->lent[place(c->side, x, y, z)] = c->mark;
-        } else {
-            c->lent[3 * at] = (uint8_t)x;
-            c->lent[3 * at + 1] = (uint8_t)y;
-            c->lent[3 * at + 2] = (uint8_t)z;
-        }
+static void list_cells(const struct samples *s, uint8_t *list) {
+    for (size_t at = 0; at < s->along * s->rows; at++)
+        for (int axis = 0; axis < 3; axis++)
+            *list++ = (uint8_t)s->cell[axis][at];
+}
+
+static size_t place_of(const struct samples *s, size_t at, uint32_t side) {
+    return place(side, s->cell[0][at], s->cell[1][at], s->cell[2][at]);
+}
+
+void mark_cells(const struct samples *s, uint32_t side, uint8_t mark, uint8_t *grid) {
+    for (size_t at = 0; at < s->along * s->rows; at++)
+        grid[place_of(s, at, side)] = mark;
+}
+
+/* Blocks of 64 for speed. */
+size_t unmarked_cells(const uint8_t *grid, size_t len) {
+    size_t count = 0;
+    for (; len >= 64; len -= 64, grid += 64) {
+        uint8_t of_block = 0;
+        for (int k = 0; k < 64; k++)
+            of_block = (uint8_t)(of_block + (grid[k] == 0));
+        count += of_block;
     }
+    while (len > 0)
+        count += grid[--len] == 0;
+    return count;
+}
+
+static void draw(const struct object_call *c, const struct samples *s) {
+    size_t before = unmarked_cells(c->lent, c->lent_len), after;
+    mark_cells(s, c->side, c->mark, c->lent);
+    after = unmarked_cells(c->lent, c->lent_len);
+    assert(after <= before);
+    *c->new_cells = (uint32_t)(before - after);
 }
 
 int64_t reference_object(const struct object_call *c, struct order *order, struct samples *s) {
@@ -210,8 +235,34 @@ int64_t reference_object(const struct object_call *c, struct order *order, struc
     take_cells(s);
     if (c->service == CHECK)
         return 0;
-    write_cells(c, s);
+    if (c->service == LIST)
+        list_cells(s, c->lent);
+    else
+        draw(c, s);
     return (int64_t)(s->along * s->rows);
+}
+
+size_t different_cells(const struct samples *s, uint32_t side) {
+    static uint8_t met[64 * 64 * 64];
+    size_t count = 0;
+    for (size_t at = 0; at < s->along * s->rows; at++) {
+        size_t p = place_of(s, at, side);
+        count += met[p] == 0;
+        met[p] = 1;
+    }
+    mark_cells(s, side, 0, met);
+    return count;
+}
+
+size_t turns(const struct samples *s) {
+    size_t count = 1;
+    for (size_t at = 1; at < s->along * s->rows; at++) {
+        int same = 1;
+        for (int axis = 0; axis < 3; axis++)
+            same &= s->cell[axis][at] == s->cell[axis][at - 1];
+        count += !same;
+    }
+    return count;
 }
 
 /* Demand 3 */
@@ -226,7 +277,7 @@ static int sample_holds(const struct samples *s, size_t at, uint32_t side, uint8
         if (cell < 0 || (int32_t)side <= cell || !within_half(s->value[axis][at], s->scale, cell))
             return 0;
     }
-    return grid[place(side, s->cell[0][at], s->cell[1][at], s->cell[2][at])] == mark;
+    return grid[place_of(s, at, side)] == mark;
 }
 
 int samples_hold(const struct samples *s, uint32_t side, uint8_t mark, const uint8_t *grid) {
@@ -547,7 +598,7 @@ static uint32_t side_line(const struct line *line, struct order *order) {
 /* The refusals that look at a curve line's numbers; a coordinate above 255 is never below the side. */
 static void stroke_order(const uint32_t *number, uint32_t side, uint8_t *points, struct order *order) {
     static struct samples samples;
-    struct object_call curve = {CHECK, 0, side, number[1], 0, 0, points, 12, NULL, 0};
+    struct object_call curve = {CHECK, 0, side, number[1], 0, 0, points, 12, NULL, 0, NULL};
     int outside = 0, large = 0;
     for (int k = 0; k < 12; k++) {
         outside |= number[2 + k] >= side;
@@ -560,62 +611,79 @@ static void stroke_order(const uint32_t *number, uint32_t side, uint8_t *points,
     order_add(order, 15, !large && steps_too_long(&curve, order, &samples));
 }
 
-/* Judges line number `at` and draws it if no number applies. */
-static void curve_line(const struct line *line, uint32_t at, uint32_t side, uint8_t *cube, struct order *order) {
+/* A cube as it is drawn line by line, with the new cells so far. */
+struct drawing {
+    uint8_t cube[BUFFER];
+    uint32_t side, new_cells;
+    struct strokes strokes;
+};
+
+/* Draws a curve line that no number refuses. */
+static void draw_stroke(const uint32_t *number, const uint8_t *points, struct drawing *d) {
     static struct samples samples;
+    uint32_t new_cells;
+    struct object_call curve = {DRAW,   0,  d->side, number[1], 0, (uint8_t)number[0],
+                                points, 12, d->cube, 0,         &new_cells};
+    struct order unused = {0};
+    curve.lent_len = (size_t)volume(d->side);
+    reference_object(&curve, &unused, &samples);
+    d->new_cells += new_cells;
+    d->strokes.cells += different_cells(&samples, d->side);
+    d->strokes.without_new += new_cells == 0;
+}
+
+/* Judges line number `at` and draws it if no number applies. */
+static void curve_line(const struct line *line, uint32_t at, struct drawing *d, struct order *order) {
     uint32_t number[FIELDS];
     uint8_t points[12];
-    struct order unused = {0};
     int bad = fields_of(line, FIELDS, 1, number);
     order_add(order, 44, at > CURVE_LINES + 1);
     order_add(order, 41, wrong_line(line, FIELDS));
     order_add(order, 42, bad);
-    stroke_order(number, side, points, order);
-    if (order_first(order) == 0) {
-        struct object_call curve = {DRAW, 0, side, number[1], 0, (uint8_t)number[0], points, 12, cube, 0};
-        curve.lent_len = (size_t)volume(side);
-        reference_object(&curve, &unused, &samples);
-    }
+    stroke_order(number, d->side, points, order);
+    if (order_first(order) == 0)
+        draw_stroke(number, points, d);
 }
 
-/* Draws the lines into the cube: the side, with the number of lines, or 0, with the number of the refused line. */
-static uint32_t sheet_lines(const uint8_t *input, size_t input_len, uint8_t *cube, uint32_t *at, struct order *order) {
+/* Draws the lines up to the first that is refused; answers the number of the last line looked at. */
+static uint32_t sheet_lines(const uint8_t *input, size_t input_len, struct drawing *d, struct order *order) {
     struct line line = line_from(input, input_len, 0);
-    uint32_t side = side_line(&line, order);
     size_t next = line.length + 1;
-    *at = 1;
-    if (order_first(order) != 0)
-        return 0;
-    memset(cube, 0, (size_t)volume(side));
-    for (; next < input_len; next += line.length + 1) {
-        ++*at;
+    uint32_t at = 1;
+    d->side = side_line(&line, order);
+    if (order_first(order) == 0)
+        memset(d->cube, 0, (size_t)volume(d->side));
+    for (; order_first(order) == 0 && next < input_len; next += line.length + 1) {
         order->length = 0;
         line = line_from(input, input_len, next);
-        curve_line(&line, *at, side, cube, order);
-        if (order_first(order) != 0)
-            return 0;
+        curve_line(&line, ++at, d, order);
     }
-    return side;
+    return at;
 }
 
 int64_t reference_draw_sheet(const uint8_t *input, size_t input_len, uint8_t *buffer, size_t buffer_len,
-                             uint8_t *detail, size_t detail_len, struct order *order) {
-    static uint8_t cube[BUFFER];
+                             uint32_t *detail, uint32_t *new_cells, struct order *order, struct strokes *strokes) {
+    static struct drawing drawing;
     struct order of_line = {0};
-    uint32_t at, side = sheet_lines(input, input_len, cube, &at, &of_line);
-    order_add(order, 52, detail_len != 1);
+    size_t cells;
+    uint32_t at;
+    drawing.new_cells = 0;
+    drawing.strokes = (struct strokes){0, 0};
+    at = sheet_lines(input, input_len, &drawing, &of_line);
     order_add(order, 21, buffer_len != BUFFER);
     for (int k = 0; k < of_line.length; k++)
         order_add(order, of_line.step[k].number, of_line.step[k].applies);
     int refusal = order_first(order);
-    if (refusal == 52)
-        return -52;
     if (refusal != 0) {
-        detail[0] = (uint8_t)(refusal == 21 ? 0 : at);
+        *detail = refusal == 21 ? 0 : at;
         return -refusal;
     }
-    memcpy(buffer, cube, (size_t)volume(side));
-    detail[0] = (uint8_t)side;
+    cells = (size_t)volume(drawing.side);
+    assert(drawing.new_cells == cells - unmarked_cells(drawing.cube, cells));
+    memcpy(buffer, drawing.cube, cells);
+    *detail = drawing.side;
+    *new_cells = drawing.new_cells;
+    *strokes = drawing.strokes;
     return (int64_t)at - 1;
 }
 

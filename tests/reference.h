@@ -33,6 +33,7 @@ struct object_call {
     size_t points_len;
     uint8_t *lent; /* the list or the grid */
     size_t lent_len;
+    uint32_t *new_cells; /* of a drawing */
 };
 
 /* The exact values of an object, times scale, and its cells: row j's sample i is at (n + 1) j + i. */
@@ -56,8 +57,20 @@ wide longest_step(const struct samples *samples);
    where a row begins. */
 void count_ties(const struct samples *samples, uint64_t *rising, uint64_t *falling, uint64_t *beside);
 
-/* An accepted call leaves the object's values and cells in samples. */
+/* An accepted call leaves the object's values and cells in samples. The new cells of a drawing are the unmarked cells of
+   the whole grid before it minus those after it. */
 int64_t reference_object(const struct object_call *call, struct order *order, struct samples *samples);
+
+/* The bytes 0 of a grid. */
+size_t unmarked_cells(const uint8_t *grid, size_t len);
+
+/* Writes the mark in the cells of an accepted object. */
+void mark_cells(const struct samples *samples, uint32_t side, uint8_t mark, uint8_t *grid);
+
+/* The cells of an accepted object: how many different ones, and how many turns to a cell from another one, the first
+   included; a curve that comes back to a cell has more turns than cells. */
+size_t different_cells(const struct samples *samples, uint32_t side);
+size_t turns(const struct samples *samples);
 
 /* Pairs of neighbouring samples along t and along u, everywhere; of both, those that lie exactly one cell apart and on
    halves on some axis, and those whose cells differ by more than one on some axis. */
@@ -96,8 +109,14 @@ int channels_on_half(uint32_t side, const struct swatch *swatch);
 int64_t reference_half_way(const struct swatch *first, const struct swatch *second, uint8_t *channels,
                            size_t channels_len, struct order *order);
 
+/* The curve lines of an accepted sheet: the different cells of each, added up, and how many lines have no new cell. */
+struct strokes {
+    uint64_t cells, without_new;
+};
+
+/* The new cells are those of each curve line in turn, added up; they are compared with the marked bytes of the cube. */
 int64_t reference_draw_sheet(const uint8_t *input, size_t input_len, uint8_t *buffer, size_t buffer_len,
-                             uint8_t *detail, size_t detail_len, struct order *order);
+                             uint32_t *detail, uint32_t *new_cells, struct order *order, struct strokes *strokes);
 
 int64_t reference_list_part(uint32_t side, const uint8_t *cube, size_t cube_len, size_t first, size_t count,
                             uint8_t *text, size_t text_len, struct order *order);
