@@ -71,37 +71,51 @@ enum { TRAPPED = -1000 };
 
 /* Lent buffers: what a call wrote is kept in now, what it wrote under the default environment in plain */
 
-enum { CELLS = 64 * 64 * 64, ROOM = GIDZKHALU_PART_BYTES(CELLS) + 64, WORDS = 120, SENTENCE = 200 };
+enum { CELLS = 64 * 64 * 64, ROOM = GIDZKHALU_PART_BYTES(CELLS) + 72, WORDS = 120, SENTENCE = 200 };
 
 static uint8_t now[ROOM], plain[ROOM], record[64], input[SHEET_ROOM], cube[300001];
 static size_t lent_len; /* of now, the bytes that are compared */
+static uint32_t new_cells, detail;
 static char words[WORDS];
 
-/* Lends so many random bytes, and 64 behind them that are not lent. */
+/* Lends so many random bytes, and 64 behind them that are not lent. The numbers hold what no call writes. */
 static void lend(size_t len) {
     lent_len = len + 64;
     random_bytes(now, lent_len);
+    new_cells = detail = UINT32_MAX;
+}
+
+/* Puts the numbers behind the bytes that are compared. */
+static void keep_numbers(void) {
+    const uint32_t left[2] = {new_cells, detail};
+    memcpy(now + lent_len, left, sizeof left);
+    lent_len += sizeof left;
 }
 
 /* Each function: inputs from the case, the call under the environment, the inputs in words */
 
 static int64_t object(enum environment e, enum service service, int patch) {
-    struct object_call c = {service, patch, 0, 0, 0, 0, record, 0, NULL, 0};
+    struct object_call c = {service, patch, 0, 0, 0, 0, record, 0, NULL, 0, NULL};
     int large = one_in(64);
     volatile int64_t answer;
     c.side = large ? 33 + below(32) : random_side();
     random_object(&c, record, large, one_in(2) ? random_faults(ALL_FAULTS) : 0);
     lend(service == CHECK ? 0 : c.lent_len);
+    if (service == DRAW)
+        random_cube(now, c.lent_len);
     if (patch && service == CHECK)
         UNDER(e, &answer, gidzkhalu_check_patch(c.side, record, c.points_len, c.n, c.m));
     else if (patch)
-        UNDER(e, &answer, gidzkhalu_draw_patch(c.side, record, c.points_len, c.n, c.m, c.mark, now, c.lent_len));
+        UNDER(e, &answer,
+              gidzkhalu_draw_patch(c.side, record, c.points_len, c.n, c.m, c.mark, now, c.lent_len, &new_cells));
     else if (service == CHECK)
         UNDER(e, &answer, gidzkhalu_check_curve(c.side, record, c.points_len, c.n));
     else if (service == LIST)
         UNDER(e, &answer, gidzkhalu_list_curve(c.side, record, c.points_len, c.n, now, c.lent_len));
     else
-        UNDER(e, &answer, gidzkhalu_draw_curve(c.side, record, c.points_len, c.n, c.mark, now, c.lent_len));
+        UNDER(e, &answer,
+              gidzkhalu_draw_curve(c.side, record, c.points_len, c.n, c.mark, now, c.lent_len, &new_cells));
+    keep_numbers();
     snprintf(words, WORDS, "side %" PRIu32 ", n %" PRIu32 ", m %" PRIu32 ", mark %d", c.side, c.n, c.m, c.mark);
     return answer;
 }
@@ -183,15 +197,15 @@ static int64_t half_way(enum environment e, uint64_t number) {
     return answer;
 }
 
-/* The detail lies behind the buffer. */
 static int64_t draw_sheet(enum environment e, uint64_t number) {
     size_t len = random_sheet(input, one_in(32)), buffer_len = GIDZKHALU_SHEET_BUFFER_BYTES;
     volatile int64_t answer;
     (void)number;
     if (one_in(32))
         buffer_len = below(GIDZKHALU_SHEET_BUFFER_BYTES + 2);
-    lend(buffer_len + GIDZKHALU_DETAIL_BYTES);
-    UNDER(e, &answer, gidzkhalu_draw_sheet(input, len, now, buffer_len, now + buffer_len, GIDZKHALU_DETAIL_BYTES));
+    lend(buffer_len);
+    UNDER(e, &answer, gidzkhalu_draw_sheet(input, len, now, buffer_len, &detail, &new_cells));
+    keep_numbers();
     snprintf(words, WORDS, "a sheet of %zu bytes", len);
     return answer;
 }

@@ -37,12 +37,19 @@ __asm__(".text\n"
 enum { SIDE = GIDZKHALU_SIDE_MOST, CELLS = SIDE * SIDE * SIDE };
 
 static uint8_t grid[CELLS], text[GIDZKHALU_PART_BYTES(CELLS)];
+static uint32_t new_cells, detail;
+
+static void fill_grid(uint8_t byte) {
+    for (size_t p = 0; p < CELLS; p++)
+        grid[p] = byte;
+}
 
 #define SIZE(table) (sizeof(table) / sizeof *(table))
 
 /* Curves: the most steps at the largest side, so that no step is long and all samples are walked. A sample takes longer
    where its cell moves, down more than up. Of all curves of one axis FALLS has the most moves down; UP_AND_DOWN and
-   DOWN_AND_UP have the most where a move down takes twice as much more as a move up. */
+   DOWN_AND_UP have the most where a move down takes twice as much more as a move up. Each is drawn into an unmarked grid,
+   where its cells are new, and into a marked one. */
 enum pattern { FALLS, UP_AND_DOWN, DOWN_AND_UP, RISES, STAYS, PATTERNS };
 
 static const char *const PATTERN[PATTERNS] = {"falls", "up and down", "down and up", "rises", "stays"};
@@ -79,28 +86,34 @@ static void print_axes(struct axes axes) {
     printf("x %s, y %s, z %s\n", PATTERN[axes.x], PATTERN[axes.y], PATTERN[axes.z]);
 }
 
-/* service: 0 check, 1 list, 2 draw. */
-static void curve(int service, uint32_t steps, struct axes axes) {
+/* service: 0 check, 1 list, 2 draw, into a grid that holds one byte. */
+static void curve(int service, uint32_t steps, struct axes axes, uint8_t held) {
     uint8_t points[GIDZKHALU_CURVE_BYTES];
     int64_t answer;
     for (int k = 0; k < 4; k++)
         put_point(points + 3 * k, axes, k, SIDE - 1);
+    fill_grid(held);
     if (service == 0)
         answer = gidzkhalu_check_curve(SIDE, points, sizeof points, steps);
     else if (service == 1)
         answer = gidzkhalu_list_curve(SIDE, points, sizeof points, steps, text, GIDZKHALU_LIST_BYTES(steps));
     else
-        answer = gidzkhalu_draw_curve(SIDE, points, sizeof points, steps, 255, grid, sizeof grid);
+        answer = gidzkhalu_draw_curve(SIDE, points, sizeof points, steps, 255, grid, sizeof grid, &new_cells);
     printf("%" PRId64 ": side %d, %" PRIu32 " steps, ", answer, SIDE, steps);
+    if (service == 2)
+        printf("cells %s, ", held == 0 ? "unmarked" : "marked");
     print_axes(axes);
 }
 
 /* The last curve has the latest long step that there is: the last of 187, on z. */
 static void curves(int service) {
     struct axes late = {STAYS, STAYS, RISES};
-    for (int number = 0; number < COMBINATIONS; number++)
-        curve(service, GIDZKHALU_CURVE_STEPS_MOST, axes_of(number));
-    curve(service, 187, late);
+    for (int number = 0; number < COMBINATIONS; number++) {
+        curve(service, GIDZKHALU_CURVE_STEPS_MOST, axes_of(number), 0);
+        if (service == 2)
+            curve(service, GIDZKHALU_CURVE_STEPS_MOST, axes_of(number), 1);
+    }
+    curve(service, 187, late, 0);
 }
 
 static void check_curves(void) { curves(0); }
@@ -109,34 +122,42 @@ static void draw_curves(void) { curves(2); }
 
 /* Patches: as curves, 256 x 256 steps, every row the same along t. Along u there is one walk, through the rows' first
    cells, so moves there count for little: some patches have them, and stay along t. */
-static void make_patch(int draws, const uint8_t points[GIDZKHALU_PATCH_BYTES]) {
+static void draw_patch(const uint8_t points[GIDZKHALU_PATCH_BYTES], uint8_t held) {
     uint32_t most = GIDZKHALU_PATCH_STEPS_MOST;
     int64_t answer;
-    if (draws)
-        answer = gidzkhalu_draw_patch(SIDE, points, GIDZKHALU_PATCH_BYTES, most, most, 255, grid, sizeof grid);
-    else
-        answer = gidzkhalu_check_patch(SIDE, points, GIDZKHALU_PATCH_BYTES, most, most);
-    printf("%" PRId64 ": side %d, %" PRIu32 " x %" PRIu32 " steps, ", answer, SIDE, most, most);
+    fill_grid(held);
+    answer = gidzkhalu_draw_patch(SIDE, points, GIDZKHALU_PATCH_BYTES, most, most, 255, grid, sizeof grid, &new_cells);
+    printf("%" PRId64 ": side %d, %" PRIu32 " x %" PRIu32 " steps, cells %s, ", answer, SIDE, most, most,
+           held == 0 ? "unmarked" : "marked");
 }
 
-static void patch(int draws, int along_u, struct axes axes) {
+static void check_patch(const uint8_t points[GIDZKHALU_PATCH_BYTES]) {
+    uint32_t most = GIDZKHALU_PATCH_STEPS_MOST;
+    printf("%" PRId64 ": side %d, %" PRIu32 " x %" PRIu32 " steps, ",
+           gidzkhalu_check_patch(SIDE, points, GIDZKHALU_PATCH_BYTES, most, most), SIDE, most, most);
+}
+
+static void patch(int draws, int along_u, struct axes axes, uint8_t held) {
     uint8_t points[GIDZKHALU_PATCH_BYTES];
     for (int k = 0; k < 16; k++)
         put_point(points + 3 * k, axes, along_u ? k % 4 : k / 4, SIDE - 1);
-    make_patch(draws, points);
+    if (draws)
+        draw_patch(points, held);
+    else
+        check_patch(points);
     printf("along %s ", along_u ? "u" : "t");
     print_axes(axes);
 }
 
 /* z of a patch most rows of which turn back once as they fall: 64 moves down and one up, where FALLS has 63 down. */
-static void turning_patch(struct axes axes) {
+static void turning_patch(struct axes axes, uint8_t held) {
     static const uint8_t z[16] = {63, 62, 63, 63, 0, 0, 0, 0, 63, 63, 63, 63, 0, 1, 0, 0};
     uint8_t points[GIDZKHALU_PATCH_BYTES];
     for (int k = 0; k < 16; k++) {
         put_point(points + 3 * k, axes, k / 4, SIDE - 1);
         points[3 * k + 2] = z[k];
     }
-    make_patch(1, points);
+    draw_patch(points, held);
     printf("along t x %s, y %s, z falls and turns back once\n", PATTERN[axes.x], PATTERN[axes.y]);
 }
 
@@ -144,22 +165,27 @@ static void turning_patch(struct axes axes) {
 static void check_patches(void) {
     for (int pattern = 0; pattern < PATTERNS; pattern++) {
         struct axes axes = {(enum pattern)pattern, (enum pattern)pattern, (enum pattern)pattern};
-        patch(0, 0, axes);
-        patch(0, 1, axes);
+        patch(0, 0, axes, 0);
+        patch(0, 1, axes, 0);
+    }
+}
+
+static void draw_patches_into(uint8_t held) {
+    for (int number = 0; number < COMBINATIONS; number++) {
+        struct axes axes = axes_of(number);
+        if (axes.x != STAYS && axes.y != STAYS && axes.z != STAYS)
+            patch(1, 0, axes, held);
+    }
+    for (int pattern = 0; pattern < PATTERNS; pattern++) {
+        struct axes axes = {(enum pattern)pattern, (enum pattern)pattern, (enum pattern)pattern};
+        patch(1, 1, axes, held);
+        turning_patch(axes, held);
     }
 }
 
 static void draw_patches(void) {
-    for (int number = 0; number < COMBINATIONS; number++) {
-        struct axes axes = axes_of(number);
-        if (axes.x != STAYS && axes.y != STAYS && axes.z != STAYS)
-            patch(1, 0, axes);
-    }
-    for (int pattern = 0; pattern < PATTERNS; pattern++) {
-        struct axes axes = {(enum pattern)pattern, (enum pattern)pattern, (enum pattern)pattern};
-        patch(1, 1, axes);
-        turning_patch(axes);
-    }
+    draw_patches_into(0);
+    draw_patches_into(1);
 }
 
 /* Swatches: no loops. A hue is compared with the whole numbers in turn, and each row of channels has a path of its own; a
@@ -225,13 +251,12 @@ static void put_line(uint8_t *line, struct axes axes, uint8_t least) {
 }
 
 static void sheet_of(struct axes axes, uint8_t least, size_t more) {
-    uint8_t detail[GIDZKHALU_DETAIL_BYTES];
     int64_t answer;
     put_field(sheet, GIDZKHALU_SHEET_SIDE_MOST);
     sheet[SIDE_LINE - 1] = '\n';
     for (int line = 0; line < LINES; line++)
         put_line(sheet + SIDE_LINE + LINE * line, axes, least);
-    answer = gidzkhalu_draw_sheet(sheet, WHOLE + more, buffer, sizeof buffer, detail, sizeof detail);
+    answer = gidzkhalu_draw_sheet(sheet, WHOLE + more, buffer, sizeof buffer, &detail, &new_cells);
     printf("%" PRId64 ": side %d, %d lines of %d steps, coordinates from %d, ", answer, GIDZKHALU_SHEET_SIDE_MOST, LINES,
            GIDZKHALU_CURVE_STEPS_MOST, least);
     print_axes(axes);
@@ -255,8 +280,7 @@ static void parts(void) {
     static const uint8_t marks[] = {0, 1, 9, 10, 99, 100, 255};
     for (size_t k = 0; k < SIZE(marks); k++)
         for (size_t first = 0; first < 2; first++) {
-            for (size_t p = 0; p < CELLS; p++)
-                grid[p] = marks[k];
+            fill_grid(marks[k]);
             printf("%" PRId64 ": side %d, from byte %zu, each cell marked %d\n",
                    gidzkhalu_list_part(SIDE, grid, CELLS, first, CELLS, text, sizeof text), SIDE, first, marks[k]);
         }

@@ -5,7 +5,7 @@
    value of one paint shows with the other. Counted are the bytes from the stack pointer just before the call
    instruction down to the lowest byte that changed: the return address, the frame, the callees, and what is written
    below the stack pointer. Room that is reserved below that byte and never written does not show. Not counted are the
-   arguments that the caller puts on the stack, which lie above: 8 bytes for draw_curve and list_part, 16 for
+   arguments that the caller puts on the stack, which lie above: 8 bytes for list_part, 16 for draw_curve, 24 for
    draw_patch. Of memset, which is all that the library takes from outside, the return address is counted: the memset of
    this file takes no more. A call that needs more than the painted room ends the run by a signal. For x86-64 and Linux
    alone. */
@@ -23,12 +23,12 @@
 
 /* Calls on the painted stack */
 
-/* Words 0 to 5 go in registers, 6 and 7 on the stack; the reals are bit patterns of f32. */
+/* Words 0 to 5 go in registers, 6 to 8 on the stack; the reals are bit patterns of f32. */
 struct call {
-    uint64_t function, word[8], real[6];
+    uint64_t function, word[9], real[6];
 };
 
-/* Makes the call with the stack pointer at top, above which are three words of room: the two words and the caller's
+/* Makes the call with the stack pointer at top, above which are four words of room: the three words and the caller's
    stack pointer. The registers that the callee has to keep are 0 meanwhile, so that none of them holds a paint. */
 int64_t call_at(const struct call *call, uint8_t *top);
 
@@ -50,9 +50,11 @@ __asm__(".text\n"
         "    movq %rdi, %rax\n"
         "    movq 56(%rax), %rcx\n"
         "    movq 64(%rax), %rdx\n"
+        "    movq 72(%rax), %r8\n"
         "    movq %rcx, 0(%rsi)\n"
         "    movq %rdx, 8(%rsi)\n"
-        "    movq %rsp, 16(%rsi)\n"
+        "    movq %r8, 16(%rsi)\n"
+        "    movq %rsp, 24(%rsi)\n"
         "    movq %rsi, %rsp\n"
         "    movq 8(%rax), %rdi\n"
         "    movq 16(%rax), %rsi\n"
@@ -60,12 +62,12 @@ __asm__(".text\n"
         "    movq 32(%rax), %rcx\n"
         "    movq 40(%rax), %r8\n"
         "    movq 48(%rax), %r9\n"
-        "    movss 72(%rax), %xmm0\n"
-        "    movss 80(%rax), %xmm1\n"
-        "    movss 88(%rax), %xmm2\n"
-        "    movss 96(%rax), %xmm3\n"
-        "    movss 104(%rax), %xmm4\n"
-        "    movss 112(%rax), %xmm5\n"
+        "    movss 80(%rax), %xmm0\n"
+        "    movss 88(%rax), %xmm1\n"
+        "    movss 96(%rax), %xmm2\n"
+        "    movss 104(%rax), %xmm3\n"
+        "    movss 112(%rax), %xmm4\n"
+        "    movss 120(%rax), %xmm5\n"
         "    xorl %ebx, %ebx\n"
         "    xorl %ebp, %ebp\n"
         "    xorl %r12d, %r12d\n"
@@ -73,7 +75,7 @@ __asm__(".text\n"
         "    xorl %r14d, %r14d\n"
         "    xorl %r15d, %r15d\n"
         "    call *(%rax)\n"
-        "    movq 16(%rsp), %rsp\n"
+        "    movq 24(%rsp), %rsp\n"
         "    popq %r15\n"
         "    popq %r14\n"
         "    popq %r13\n"
@@ -162,7 +164,7 @@ static struct figure {
     {"draw_patch", {0, 51, 11, 21, 12, 13, 14, 15}, -1, 0, 0, {0}, 0, ""},
     {"to_cell", {0, 53, 52, 11, 31, 33, 32}, -1, 0, 0, {0}, 0, ""},
     {"half_way", {0, 53, 52, 31, 33, 32}, -1, 0, 0, {0}, 0, ""},
-    {"draw_sheet", {0, 52, 21, 41, 42, 11, 43, 44, 12, 13, 14, 15}, -1, 0, 0, {0}, 0, ""},
+    {"draw_sheet", {0, 21, 41, 42, 11, 43, 44, 12, 13, 14, 15}, -1, 0, 0, {0}, 0, ""},
     {"list_part", {0, 11, 21, 22}, -1, 0, 0, {0}, 0, ""},
     {"totals", {0, 11, 21, 22}, -1, 0, 0, {0}, 0, ""},
     {"refusal_line", {0, 54, 22}, -1, 0, 0, {0}, 0, ""},
@@ -222,6 +224,7 @@ static int calibrated(void) {
 enum { CELLS = GIDZKHALU_CUBE_BYTES(GIDZKHALU_SIDE_MOST), GRID = 300001 };
 
 static uint8_t grid[GRID]; /* the grid or the list */
+static uint32_t new_cells, detail;
 
 static void measure_object(const struct object_call *c) {
     uint64_t p = PLACE(c->points), len = c->points_len, g = PLACE(c->lent), g_len = c->lent_len;
@@ -234,16 +237,21 @@ static void measure_object(const struct object_call *c) {
         measure(LIST_CURVE, gidzkhalu_list_curve(c->side, c->points, len, c->n, c->lent, g_len), &call,
                 "side %" PRIu32 ", n %" PRIu32, c->side, c->n);
     } else if (!c->patch) {
-        struct call call = {(uint64_t)gidzkhalu_draw_curve, {c->side, p, len, c->n, c->mark, g, g_len}, {0}};
-        measure(DRAW_CURVE, gidzkhalu_draw_curve(c->side, c->points, len, c->n, c->mark, c->lent, g_len), &call,
-                "side %" PRIu32 ", n %" PRIu32 ", mark %d", c->side, c->n, c->mark);
+        struct call call = {(uint64_t)gidzkhalu_draw_curve,
+                            {c->side, p, len, c->n, c->mark, g, g_len, PLACE(&new_cells)},
+                            {0}};
+        measure(DRAW_CURVE, gidzkhalu_draw_curve(c->side, c->points, len, c->n, c->mark, c->lent, g_len, &new_cells),
+                &call, "side %" PRIu32 ", n %" PRIu32 ", mark %d", c->side, c->n, c->mark);
     } else if (c->service == CHECK) {
         struct call call = {(uint64_t)gidzkhalu_check_patch, {c->side, p, len, c->n, c->m}, {0}};
         measure(CHECK_PATCH, gidzkhalu_check_patch(c->side, c->points, len, c->n, c->m), &call,
                 "side %" PRIu32 ", n %" PRIu32 ", m %" PRIu32, c->side, c->n, c->m);
     } else {
-        struct call call = {(uint64_t)gidzkhalu_draw_patch, {c->side, p, len, c->n, c->m, c->mark, g, g_len}, {0}};
-        measure(DRAW_PATCH, gidzkhalu_draw_patch(c->side, c->points, len, c->n, c->m, c->mark, c->lent, g_len), &call,
+        struct call call = {(uint64_t)gidzkhalu_draw_patch,
+                            {c->side, p, len, c->n, c->m, c->mark, g, g_len, PLACE(&new_cells)},
+                            {0}};
+        measure(DRAW_PATCH,
+                gidzkhalu_draw_patch(c->side, c->points, len, c->n, c->m, c->mark, c->lent, g_len, &new_cells), &call,
                 "side %" PRIu32 ", n %" PRIu32 ", m %" PRIu32 ", mark %d", c->side, c->n, c->m, c->mark);
     }
 }
@@ -324,13 +332,13 @@ static void chosen_objects(enum service service, int patch) {
         for (size_t n = 0; n < many; n++)
             for (size_t m = 0; m < (patch ? many : 1); m++)
                 for (int pattern = 0; pattern < PATTERNS; pattern++) {
-                    struct object_call c = {service, patch, SIDES[s], counts[n], counts[m], 0, NULL, 0, NULL, 0};
+                    struct object_call c = {service, patch, SIDES[s], counts[n], counts[m], 0, NULL, 0, NULL, 0, NULL};
                     chosen_object(&c, points, (enum pattern)pattern);
                 }
 }
 
 static void random_object_call(enum service service, int patch) {
-    struct object_call c = {service, patch, 0, 0, 0, 0, NULL, 0, grid, 0};
+    struct object_call c = {service, patch, 0, 0, 0, 0, NULL, 0, grid, 0, NULL};
     uint8_t points[64];
     int large = one_in(16);
     c.side = large ? 33 + below(32) : random_side();
@@ -452,12 +460,11 @@ enum { BUFFER = GIDZKHALU_SHEET_BUFFER_BYTES, SIDE_LINE = 6, LINE = 71, LINES = 
 
 static uint8_t input[SHEET_ROOM], buffer[BUFFER + 1];
 
-static void measure_sheet(size_t input_len, size_t buffer_len, size_t detail_len) {
-    uint8_t detail[16];
+static void measure_sheet(size_t input_len, size_t buffer_len) {
     struct call call = {(uint64_t)gidzkhalu_draw_sheet,
-                        {PLACE(input), input_len, PLACE(buffer), buffer_len, PLACE(detail), detail_len},
+                        {PLACE(input), input_len, PLACE(buffer), buffer_len, PLACE(&detail), PLACE(&new_cells)},
                         {0}};
-    measure(DRAW_SHEET, gidzkhalu_draw_sheet(input, input_len, buffer, buffer_len, detail, detail_len), &call,
+    measure(DRAW_SHEET, gidzkhalu_draw_sheet(input, input_len, buffer, buffer_len, &detail, &new_cells), &call,
             "a sheet of %zu bytes", input_len);
 }
 
@@ -496,12 +503,12 @@ static void bad_lines(size_t lines, size_t line) {
         len = put_sheet(40, lines, 255, 512);
         put_field(field_of(line, 1), BAD_FIELDS[k].steps);
         put_field(field_of(line, BAD_FIELDS[k].field), BAD_FIELDS[k].number);
-        measure_sheet(len, BUFFER, 1);
+        measure_sheet(len, BUFFER);
     }
     for (size_t field = 0; field <= 14; field++) { /* 42, and 41 for the line feed */
         len = put_sheet(40, lines, 255, 512);
         field_of(line, field)[field < 14 ? 4 : 0] = 'x';
-        measure_sheet(len, BUFFER, 1);
+        measure_sheet(len, BUFFER);
     }
 }
 
@@ -509,23 +516,21 @@ static void bad_lines(size_t lines, size_t line) {
 static void whole_sheets(unsigned side, size_t lines, unsigned steps) {
     static const uint8_t more[] = {'\n', ' ', '1'};
     size_t len = put_sheet(side, lines, 1, steps);
-    measure_sheet(len, BUFFER, 1);
-    measure_sheet(len - 1, BUFFER, 1);
-    measure_sheet(len, BUFFER - 1, 1);
-    measure_sheet(len, BUFFER + 1, 1);
-    measure_sheet(len, 0, 1);
-    measure_sheet(len, BUFFER, 0);
-    measure_sheet(len, BUFFER, 2);
+    measure_sheet(len, BUFFER);
+    measure_sheet(len - 1, BUFFER);
+    measure_sheet(len, BUFFER - 1);
+    measure_sheet(len, BUFFER + 1);
+    measure_sheet(len, 0);
     for (size_t k = 0; k < SIZE(more); k++) {
         input[len] = more[k];
-        measure_sheet(len + 1, BUFFER, 1);
+        measure_sheet(len + 1, BUFFER);
     }
 }
 
 static void chosen_sheets(void) {
     static const unsigned sides[] = {0, 1, 2, 3, 39, 40, 41, 64, 65, 99999}, steps[] = {0, 1, 3, 120, 512, 513};
     static const size_t lines[] = {0, 1, 2, LINES - 1, LINES, LINES + 1};
-    measure_sheet(0, BUFFER, 1);
+    measure_sheet(0, BUFFER);
     for (size_t s = 0; s < SIZE(sides); s++)
         for (size_t k = 0; k < SIZE(lines); k++)
             for (size_t n = 0; n < SIZE(steps); n++)
@@ -538,7 +543,7 @@ static void chosen_sheets(void) {
 
 static void random_draw_sheet(void) {
     size_t len = random_sheet(input, one_in(8));
-    measure_sheet(len, one_in(32) ? below(BUFFER + 2) : BUFFER, one_in(32) ? below(3) : 1);
+    measure_sheet(len, one_in(32) ? below(BUFFER + 2) : BUFFER);
 }
 
 /* Listings and totals */
