@@ -17,13 +17,16 @@ static const struct box library = BOX(gidzkhalu), exact[] = {BOX(same), BOX(dire
 static struct {
     uint32_t side, n, m, kind, kind2, number, line;
     uint8_t points[49], mark;
-    size_t points_len, lent_len, cube_len, first, count, input_len, detail_len;
+    size_t points_len, lent_len, cube_len, first, count, input_len;
     float a[6];
     uint8_t input[SHEET_BYTES + 200], cube[CELLS];
 } in;
 
 /* What a lent buffer holds before a call, after the library's and after another's. */
 static uint8_t before[ROOM], expected[ROOM], after[ROOM];
+
+/* The numbers that the call writes. */
+static uint32_t detail, new_cells;
 
 typedef answer call_fn(const struct box *box, uint8_t *lent);
 
@@ -40,7 +43,7 @@ static answer call_list_curve(const struct box *box, uint8_t *lent)
 
 static answer call_draw_curve(const struct box *box, uint8_t *lent)
 {
-    return box->draw_curve(in.side, in.points, in.points_len, in.n, in.mark, lent, in.lent_len);
+    return box->draw_curve(in.side, in.points, in.points_len, in.n, in.mark, lent, in.lent_len, &new_cells);
 }
 
 static answer call_check_patch(const struct box *box, uint8_t *lent)
@@ -51,7 +54,7 @@ static answer call_check_patch(const struct box *box, uint8_t *lent)
 
 static answer call_draw_patch(const struct box *box, uint8_t *lent)
 {
-    return box->draw_patch(in.side, in.points, in.points_len, in.n, in.m, in.mark, lent, in.lent_len);
+    return box->draw_patch(in.side, in.points, in.points_len, in.n, in.m, in.mark, lent, in.lent_len, &new_cells);
 }
 
 static answer call_to_cell(const struct box *box, uint8_t *lent)
@@ -65,12 +68,9 @@ static answer call_half_way(const struct box *box, uint8_t *lent)
     return box->half_way(in.kind, a[0], a[1], a[2], in.kind2, a[3], a[4], a[5], lent, in.lent_len);
 }
 
-/* The detail comes back in the answer's last three digits. */
 static answer call_draw_sheet(const struct box *box, uint8_t *lent)
 {
-    uint8_t detail = 255;
-    answer r = box->draw_sheet(in.input, in.input_len, lent, in.lent_len, &detail, in.detail_len);
-    return 1000 * r + detail;
+    return box->draw_sheet(in.input, in.input_len, lent, in.lent_len, &detail, &new_cells);
 }
 
 static answer call_list_part(const struct box *box, uint8_t *lent)
@@ -88,18 +88,27 @@ static answer call_refusal_line(const struct box *box, uint8_t *lent)
     return box->refusal_line(in.number, in.line, lent, in.lent_len);
 }
 
+/* The call with numbers that it cannot write. */
+static answer make(call_fn *call, const struct box *box, uint8_t *lent)
+{
+    detail = new_cells = UINT32_MAX;
+    return call(box, lent);
+}
+
 /* One call by all, each on the same room bytes. */
 static void agree(const char *name, call_fn *call, size_t room)
 {
     memcpy(expected, before, room);
-    answer want = call(&library, expected);
+    answer want = make(call, &library, expected);
+    uint32_t want_detail = detail, want_new = new_cells;
     for (int k = 0; k < 2; k++) {
         memcpy(after, before, room);
-        answer got = call(&exact[k], after);
-        if (got == want && memcmp(after, expected, room) == 0)
+        answer got = make(call, &exact[k], after);
+        if (got == want && detail == want_detail && new_cells == want_new && memcmp(after, expected, room) == 0)
             continue;
-        printf("%s: the library answers %lld, %s %lld; the bytes %s\n", name, (long long)want, exact[k].prefix,
-               (long long)got, memcmp(after, expected, room) ? "differ" : "agree");
+        printf("%s: the library answers %lld, detail %lu, new cells %lu; %s %lld, %lu, %lu; the bytes %s\n", name,
+               (long long)want, (unsigned long)want_detail, (unsigned long)want_new, exact[k].prefix, (long long)got,
+               (unsigned long)detail, (unsigned long)new_cells, memcmp(after, expected, room) ? "differ" : "agree");
         exit(1);
     }
 }
@@ -134,7 +143,6 @@ static void take_swatches(int set, size_t i, uint32_t kind)
 static void take_sheet(int set, int k)
 {
     in.input_len = SHEET_BYTES;
-    in.detail_len = 1;
     in.lent_len = SHEET_CELLS;
     memcpy(in.input, sheets[set][k], SHEET_BYTES);
 }
@@ -192,10 +200,11 @@ static void agree_on_sheet(int set, int k)
         agree("list_part", call_list_part, in.lent_len + 1);
 }
 
+/* Half of the bytes are 0: a drawing finds marked cells and unmarked ones. */
 static void fill_before(void)
 {
     for (size_t i = 0; i < ROOM; i++)
-        before[i] = (uint8_t)random_bits();
+        before[i] = random_below(2) == 0 ? 0 : (uint8_t)random_bits();
 }
 
 void agree_on_inputs(void)
@@ -351,7 +360,6 @@ static void some_sheet(void)
     if (rarely(10))
         in.input_len = rarely(2) ? in.input_len + 1 + random_below(100) : random_below((uint32_t)in.input_len + 1);
     in.lent_len = rarely(30) ? SHEET_CELLS + 1 : SHEET_CELLS;
-    in.detail_len = rarely(30) ? 0 : 1;
     agree("draw_sheet", call_draw_sheet, SHEET_CELLS + 1);
 }
 
@@ -423,13 +431,15 @@ static size_t wrong(size_t len, size_t group)
     return count;
 }
 
-/* The call by library and (c), each on room bytes of 0. */
-static void both(call_fn *call, size_t room)
+/* The call by library and (c), each on room bytes of 0. Answers the new cells of the library's, if it is a drawing. */
+static uint32_t both(call_fn *call, size_t room)
 {
     memset(expected, 0, room);
     memset(after, 0, room);
     call(&library, expected);
+    uint32_t marked = new_cells;
     call(&usual, after);
+    return marked;
 }
 
 static void say_wrong(const char *what, size_t count, size_t of)
@@ -449,23 +459,14 @@ static void wrong_curves(void)
     say_wrong("curves, n = 512: cells of samples", count, CURVES * (STEPS + 1));
 }
 
-static size_t marked(size_t len)
-{
-    size_t count = 0;
-    for (size_t i = 0; i < len; i++)
-        count += expected[i] != 0;
-    return count;
-}
-
 static void wrong_patches(int set)
 {
     size_t count = 0, of = 0;
     for (int k = 0; k < PATCHES; k++) {
         take_patch(set, k);
         in.lent_len = CELLS;
-        both(call_draw_patch, CELLS);
+        of += both(call_draw_patch, CELLS);
         count += wrong(CELLS, 1);
-        of += marked(CELLS);
     }
     say_wrong(set == 0 ? "patches, 64 × 64: cells marked or left" : "patches, 256 × 256: cells marked or left", count,
               of);
@@ -492,9 +493,8 @@ static void wrong_sheets(int set)
     size_t count = 0, of = 0;
     for (int k = 0; k < SHEETS; k++) {
         take_sheet(set, k);
-        both(call_draw_sheet, SHEET_CELLS);
+        of += both(call_draw_sheet, SHEET_CELLS);
         count += wrong(SHEET_CELLS, 1);
-        of += marked(SHEET_CELLS);
     }
     say_wrong(set == 0 ? "sheets, sparse: cells marked or left" : "sheets, dense: cells marked or left", count, of);
 }

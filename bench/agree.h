@@ -1,4 +1,4 @@
-/* Library, (a) and (b) must give the same answers and leave the same bytes. */
+/* Library, (a) and (b) must give the same answers, write the same numbers and leave the same bytes. */
 #ifndef AGREE_H
 #define AGREE_H
 

@@ -25,6 +25,7 @@ static const struct box boxes[BOXES] = {BOX(gidzkhalu), BOX(same), BOX(direct), 
 
 static uint8_t grid[CELLS], list[3 * (STEPS + 1)], buffer[SHEET_CELLS], text[21 * (PART + 1) + 1];
 static uint8_t cubes[2][SHEETS][SHEET_CELLS];
+static uint32_t marked[2]; /* cells of all cubes of a set */
 
 /* Three bytes or twelve for each swatch. */
 static uint8_t *out;
@@ -36,9 +37,10 @@ static answer total;
 
 static size_t draw_curves(const struct box *box, int set)
 {
+    uint32_t new_cells;
     (void)set;
     for (int k = 0; k < CURVES; k++)
-        total += box->draw_curve(SIDE, curves[k], 12, STEPS, 1, grid, CELLS);
+        total += box->draw_curve(SIDE, curves[k], 12, STEPS, 1, grid, CELLS, &new_cells);
     return CURVES * (STEPS + 1);
 }
 
@@ -63,8 +65,9 @@ static size_t draw_patches(const struct box *box, int set)
 {
     uint32_t n = set == 0 ? 64 : 256;
     size_t count = set == 0 ? PATCHES : PATCHES / 4;
+    uint32_t new_cells;
     for (size_t k = 0; k < count; k++)
-        total += box->draw_patch(SIDE, patches[set][k], 48, n, n, 1, grid, CELLS);
+        total += box->draw_patch(SIDE, patches[set][k], 48, n, n, 1, grid, CELLS, &new_cells);
     return count * (n + 1) * (n + 1);
 }
 
@@ -133,9 +136,9 @@ static void list_cube(const struct box *box, const uint8_t *cube)
 
 static size_t draw_sheets(const struct box *box, int set)
 {
-    uint8_t detail;
+    uint32_t detail, new_cells;
     for (int k = 0; k < SHEETS; k++)
-        total += box->draw_sheet(sheets[set][k], SHEET_BYTES, buffer, sizeof buffer, &detail, 1);
+        total += box->draw_sheet(sheets[set][k], SHEET_BYTES, buffer, sizeof buffer, &detail, &new_cells);
     return SHEETS;
 }
 
@@ -148,9 +151,9 @@ static size_t list_sheets(const struct box *box, int set)
 
 static size_t draw_and_list_sheets(const struct box *box, int set)
 {
-    uint8_t detail;
+    uint32_t detail, new_cells;
     for (int k = 0; k < SHEETS; k++) {
-        total += box->draw_sheet(sheets[set][k], SHEET_BYTES, buffer, sizeof buffer, &detail, 1);
+        total += box->draw_sheet(sheets[set][k], SHEET_BYTES, buffer, sizeof buffer, &detail, &new_cells);
         list_cube(box, buffer);
     }
     return SHEETS;
@@ -211,8 +214,9 @@ static void make(size_t swatch_count)
         exit(2);
     for (int set = 0; set < 2; set++)
         for (int k = 0; k < SHEETS; k++) {
-            uint8_t detail;
-            direct_draw_sheet(sheets[set][k], SHEET_BYTES, cubes[set][k], SHEET_CELLS, &detail, 1);
+            uint32_t detail, new_cells;
+            direct_draw_sheet(sheets[set][k], SHEET_BYTES, cubes[set][k], SHEET_CELLS, &detail, &new_cells);
+            marked[set] += new_cells;
         }
 }
 
@@ -339,13 +343,9 @@ static void table(void)
 
 static void print_marked(void)
 {
-    for (int set = 0; set < 2; set++) {
-        size_t marked = 0;
-        for (int k = 0; k < SHEETS; k++)
-            for (int i = 0; i < SHEET_CELLS; i++)
-                marked += cubes[set][k][i] != 0;
-        printf("A %s sheet marks %zu of %d cells.\n", set == 0 ? "sparse" : "dense", marked / SHEETS, SHEET_CELLS);
-    }
+    for (int set = 0; set < 2; set++)
+        printf("A %s sheet marks %lu of %d cells.\n", set == 0 ? "sparse" : "dense",
+               (unsigned long)marked[set] / SHEETS, SHEET_CELLS);
 }
 
 static void check(void)
@@ -353,7 +353,8 @@ static void check(void)
     make(1000000);
     agree_on_inputs();
     agree_on_random_calls();
-    printf("Library, (a) and (b) gave the same answers and bytes on the inputs and on random calls, good and bad.\n");
+    printf("Library, (a) and (b) gave the same answers, counts and bytes on the inputs and on random calls, good and "
+           "bad.\n");
     print_marked();
     printf("\n");
     count_wrong_cells();

@@ -2,6 +2,7 @@
    prefix, and before it:
      curves    step_too_long, list_samples, mark_samples
      patches   patch_step_too_long, mark_rows
+               mark_samples and mark_rows answer how many cells are new
      swatches  refusal_of_one and refusal_of_three, 0 or the number of channels; refusal_of_hue, of hue, saturation and
                value; coordinate; mix, of two channels */
 #ifndef CALLS_H
@@ -40,7 +41,7 @@ answer CALL(list_curve)(uint32_t side, const uint8_t *points, size_t points_len,
 }
 
 answer CALL(draw_curve)(uint32_t side, const uint8_t *points, size_t points_len, uint32_t steps, uint8_t mark,
-                        uint8_t *grid, size_t grid_len)
+                        uint8_t *grid, size_t grid_len, uint32_t *new_cells)
 {
     if (points_len != 12)
         return -51;
@@ -49,7 +50,7 @@ answer CALL(draw_curve)(uint32_t side, const uint8_t *points, size_t points_len,
         return -refusal;
     if (step_too_long(points, steps))
         return -15;
-    mark_samples(side, points, steps, mark, grid);
+    *new_cells = mark_samples(side, points, steps, mark, grid);
     return (answer)steps + 1;
 }
 
@@ -66,7 +67,7 @@ answer CALL(check_patch)(uint32_t side, const uint8_t *points, size_t points_len
 }
 
 answer CALL(draw_patch)(uint32_t side, const uint8_t *points, size_t points_len, uint32_t n, uint32_t m, uint8_t mark,
-                        uint8_t *grid, size_t grid_len)
+                        uint8_t *grid, size_t grid_len, uint32_t *new_cells)
 {
     if (points_len != 48)
         return -51;
@@ -75,7 +76,7 @@ answer CALL(draw_patch)(uint32_t side, const uint8_t *points, size_t points_len,
         return -refusal;
     if (patch_step_too_long(points, n, m))
         return -15;
-    mark_rows(side, points, n, m, mark, grid);
+    *new_cells = mark_rows(side, points, n, m, mark, grid);
     return (answer)((n + 1) * (m + 1));
 }
 

@@ -5,6 +5,7 @@
 #include <stdint.h>
 #include <stdlib.h>
 
+#include "cell.h"
 #include "totals.h"
 
 /* n³ times the value at i / n. */
@@ -50,15 +51,17 @@ static bool step_too_long(const uint8_t *points, uint32_t n)
     return false;
 }
 
-static void mark_samples(uint32_t side, const uint8_t *points, uint32_t n, uint8_t mark, uint8_t *grid)
+static uint32_t mark_samples(uint32_t side, const uint8_t *points, uint32_t n, uint8_t mark, uint8_t *grid)
 {
     int64_t s = side, scale = cubed(n), x = points[0], y = points[1], z = points[2];
+    uint32_t new_cells = 0;
     for (uint32_t i = 0; i <= n; i++) {
         x = move(x, sample(points, n, i), scale);
         y = move(y, sample(points + 1, n, i), scale);
         z = move(z, sample(points + 2, n, i), scale);
-        grid[x + s * y + s * s * z] = mark;
+        new_cells += mark_cell(grid + (x + s * y + s * s * z), mark);
     }
+    return new_cells;
 }
 
 static void list_samples(const uint8_t *points, uint32_t n, uint8_t *list)
@@ -114,30 +117,33 @@ static bool patch_step_too_long(const uint8_t *points, uint32_t n, uint32_t m)
     return false;
 }
 
-static void mark_row(const int64_t gx[4], const int64_t gy[4], const int64_t gz[4], const int64_t start[3], uint32_t n,
-                     int64_t scale, int64_t s, uint8_t mark, uint8_t *grid)
+static uint32_t mark_row(const int64_t gx[4], const int64_t gy[4], const int64_t gz[4], const int64_t start[3],
+                         uint32_t n, int64_t scale, int64_t s, uint8_t mark, uint8_t *grid)
 {
     int64_t x = start[0], y = start[1], z = start[2];
-    grid[x + s * y + s * s * z] = mark;
+    uint32_t new_cells = mark_cell(grid + (x + s * y + s * s * z), mark);
     for (uint32_t i = 1; i <= n; i++) {
         x = move(x, row_sample(gx, n, i), scale);
         y = move(y, row_sample(gy, n, i), scale);
         z = move(z, row_sample(gz, n, i), scale);
-        grid[x + s * y + s * s * z] = mark;
+        new_cells += mark_cell(grid + (x + s * y + s * s * z), mark);
     }
+    return new_cells;
 }
 
-static void mark_rows(uint32_t side, const uint8_t *points, uint32_t n, uint32_t m, uint8_t mark, uint8_t *grid)
+static uint32_t mark_rows(uint32_t side, const uint8_t *points, uint32_t n, uint32_t m, uint8_t mark, uint8_t *grid)
 {
     int64_t scale = cubed(n) * cubed(m), g[3][4];
     int64_t start[3] = {points[0], points[1], points[2]};
+    uint32_t new_cells = 0;
     for (uint32_t j = 0; j <= m; j++) {
         for (int a = 0; a < 3; a++) {
             row_controls(points + a, m, j, g[a]);
             start[a] = move(start[a], row_sample(g[a], n, 0), scale);
         }
-        mark_row(g[0], g[1], g[2], start, n, scale, side, mark, grid);
+        new_cells += mark_row(g[0], g[1], g[2], start, n, scale, side, mark, grid);
     }
+    return new_cells;
 }
 
 /* Swatches: the product of a float (24 bits) and side - 1 (6 bits) is exact in a double, and so is what is left of it

@@ -6,6 +6,7 @@
 #include <stdint.h>
 #include <string.h>
 
+#include "cell.h"
 #include "totals.h"
 
 #if defined(__GNUC__)
@@ -90,17 +91,18 @@ static inline void step(struct cubic *c, int64_t scale, int64_t stride, int64_t 
     }
 }
 
-/* Marks the cells of a row: sample 0 and n steps. */
-static inline void mark_row(struct cubic x, struct cubic y, struct cubic z, int64_t place, uint32_t n, int64_t scale,
-                            int64_t side, uint8_t mark, uint8_t *grid)
+/* Marks the cells of a row, sample 0 and n steps; answers how many are new. */
+static inline uint32_t mark_row(struct cubic x, struct cubic y, struct cubic z, int64_t place, uint32_t n,
+                                int64_t scale, int64_t side, uint8_t mark, uint8_t *grid)
 {
-    grid[place] = mark;
+    uint32_t new_cells = mark_cell(grid + place, mark);
     for (; n > 0; n--) {
         step(&x, scale, 1, &place);
         step(&y, scale, side, &place);
         step(&z, scale, side * side, &place);
-        grid[place] = mark;
+        new_cells += mark_cell(grid + place, mark);
     }
+    return new_cells;
 }
 
 static inline int64_t first_place(const uint8_t *points, int64_t side)
@@ -126,10 +128,10 @@ static inline struct cubic start_walk(const uint8_t *points, uint32_t n)
     return c;
 }
 
-static void mark_samples(uint32_t side, const uint8_t *points, uint32_t n, uint8_t mark, uint8_t *grid)
+static uint32_t mark_samples(uint32_t side, const uint8_t *points, uint32_t n, uint8_t mark, uint8_t *grid)
 {
-    mark_row(start_walk(points, n), start_walk(points + 1, n), start_walk(points + 2, n), first_place(points, side), n,
-             cubed(n), side, mark, grid);
+    return mark_row(start_walk(points, n), start_walk(points + 1, n), start_walk(points + 2, n),
+                    first_place(points, side), n, cubed(n), side, mark, grid);
 }
 
 static inline void put_cell(uint8_t *list, int64_t x, int64_t y, int64_t z)
@@ -227,14 +229,15 @@ static inline struct surface start_rows(const uint8_t *points, uint32_t n, uint3
     return s;
 }
 
-static void mark_rows(uint32_t side, const uint8_t *points, uint32_t n, uint32_t m, uint8_t mark, uint8_t *grid)
+static uint32_t mark_rows(uint32_t side, const uint8_t *points, uint32_t n, uint32_t m, uint8_t mark, uint8_t *grid)
 {
     int64_t h = side, scale = cubed(n) * cubed(m), place = first_place(points, h);
     struct surface x = start_rows(points, n, m), y = start_rows(points + 1, n, m), z = start_rows(points + 2, n, m);
+    uint32_t new_cells = 0;
     for (;; m--) {
-        mark_row(row(&x), row(&y), row(&z), place, n, scale, h, mark, grid);
+        new_cells += mark_row(row(&x), row(&y), row(&z), place, n, scale, h, mark, grid);
         if (m == 0)
-            return;
+            return new_cells;
         step_row(&x, scale, 1, &place);
         step_row(&y, scale, h, &place);
         step_row(&z, scale, h * h, &place);

@@ -118,32 +118,33 @@ static int judge_sheet(const uint8_t *input, size_t len, uint32_t *side, uint32_
     return 0;
 }
 
-static void draw_lines(const uint8_t *input, uint32_t side, uint32_t curves, uint8_t *cube)
+/* Answers how many cells are new, one line after the other. */
+static uint32_t draw_lines(const uint8_t *input, uint32_t side, uint32_t curves, uint8_t *cube)
 {
+    uint32_t new_cells = 0;
     memset(cube, 0, (size_t)side * side * side);
     for (uint32_t k = 0; k < curves; k++) {
         struct curve curve;
         if (read_curve(input + FIRST + LINE * k, &curve))
-            mark_samples(side, curve.points, curve.steps, curve.mark, cube);
+            new_cells += mark_samples(side, curve.points, curve.steps, curve.mark, cube);
     }
+    return new_cells;
 }
 
-answer CALL(draw_sheet)(const uint8_t *input, size_t len, uint8_t *buffer, size_t buffer_len, uint8_t *detail,
-                        size_t detail_len)
+answer CALL(draw_sheet)(const uint8_t *input, size_t len, uint8_t *buffer, size_t buffer_len, uint32_t *detail,
+                        uint32_t *new_cells)
 {
-    if (detail_len != 1)
-        return -52;
     *detail = 0;
     if (buffer_len != BUFFER)
         return -21;
     uint32_t side, line;
     int refusal = judge_sheet(input, len, &side, &line);
     if (refusal != 0) {
-        *detail = (uint8_t)line;
+        *detail = line;
         return -refusal;
     }
-    draw_lines(input, side, line - 2, buffer);
-    *detail = (uint8_t)side;
+    *new_cells = draw_lines(input, side, line - 2, buffer);
+    *detail = side;
     return (answer)line - 2;
 }
 

@@ -8,6 +8,8 @@
 #include <stdio.h>
 #include <string.h>
 
+#include "cell.h"
+
 static inline float blend(float t, float g0, float g1, float g2, float g3)
 {
     float k = 1.0f - t;
@@ -28,13 +30,15 @@ static inline size_t rounded(const uint8_t *points, float t)
     return nearest(blend(t, points[0], points[3], points[6], points[9]));
 }
 
-static void mark_samples(uint32_t side, const uint8_t *points, uint32_t n, uint8_t mark, uint8_t *grid)
+static uint32_t mark_samples(uint32_t side, const uint8_t *points, uint32_t n, uint8_t mark, uint8_t *grid)
 {
+    uint32_t new_cells = 0;
     for (uint32_t i = 0; i <= n; i++) {
         float t = (float)i / (float)n;
         size_t x = rounded(points, t), y = rounded(points + 1, t), z = rounded(points + 2, t);
-        grid[x + side * (y + side * z)] = mark;
+        new_cells += mark_cell(grid + (x + side * (y + side * z)), mark);
     }
+    return new_cells;
 }
 
 static void list_samples(const uint8_t *points, uint32_t n, uint8_t *list)
@@ -65,8 +69,9 @@ static inline size_t rounded_in_row(const float g[4], float t)
     return nearest(blend(t, g[0], g[1], g[2], g[3]));
 }
 
-static void mark_rows(uint32_t side, const uint8_t *points, uint32_t n, uint32_t m, uint8_t mark, uint8_t *grid)
+static uint32_t mark_rows(uint32_t side, const uint8_t *points, uint32_t n, uint32_t m, uint8_t mark, uint8_t *grid)
 {
+    uint32_t new_cells = 0;
     for (uint32_t j = 0; j <= m; j++) {
         float gx[4], gy[4], gz[4], u = (float)j / (float)m;
         row_controls(points, u, gx);
@@ -75,9 +80,10 @@ static void mark_rows(uint32_t side, const uint8_t *points, uint32_t n, uint32_t
         for (uint32_t i = 0; i <= n; i++) {
             float t = (float)i / (float)n;
             size_t x = rounded_in_row(gx, t), y = rounded_in_row(gy, t), z = rounded_in_row(gz, t);
-            grid[x + side * (y + side * z)] = mark;
+            new_cells += mark_cell(grid + (x + side * (y + side * z)), mark);
         }
     }
+    return new_cells;
 }
 
 static inline bool patch_step_too_long(const uint8_t *points, uint32_t n, uint32_t m)
@@ -145,12 +151,12 @@ static bool read_curve(const uint8_t *line, size_t len, uint32_t side, struct cu
     return true;
 }
 
-answer usual_draw_sheet(const uint8_t *input, size_t input_len, uint8_t *buffer, size_t buffer_len, uint8_t *detail,
-                        size_t detail_len)
+answer usual_draw_sheet(const uint8_t *input, size_t input_len, uint8_t *buffer, size_t buffer_len, uint32_t *detail,
+                        uint32_t *new_cells)
 {
     char text[7] = {0};
     unsigned side;
-    if (detail_len != 1 || buffer_len != 64000)
+    if (buffer_len != 64000)
         return -21;
     memcpy(text, input, input_len < 6 ? input_len : 6);
     *detail = 1;
@@ -158,14 +164,16 @@ answer usual_draw_sheet(const uint8_t *input, size_t input_len, uint8_t *buffer,
         return -42;
     memset(buffer, 0, (size_t)side * side * side);
     answer lines = 0;
+    uint32_t marked = 0;
     for (size_t at = 6; at < input_len; at += 71, lines++) {
         struct curve curve;
-        *detail = (uint8_t)(lines + 2);
+        *detail = (uint32_t)lines + 2;
         if (!read_curve(input + at, input_len - at, side, &curve))
             return -42;
-        mark_samples(side, curve.points, curve.steps, curve.mark, buffer);
+        marked += mark_samples(side, curve.points, curve.steps, curve.mark, buffer);
     }
-    *detail = (uint8_t)side;
+    *detail = side;
+    *new_cells = marked;
     return lines;
 }
 
