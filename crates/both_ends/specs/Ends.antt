@@ -4,8 +4,8 @@ use mathlib.Core.List.{List}
 use Prim.Native.Nat.{ℕ, _+_, _*_, _≤_}
 use lib.ListN.{length, getD}
 use Rattle.curve.specs.declared.Curve.{Curve}
-use Rattle.scan.specs.declared.answer.Answer.{Answer}
-use Rattle.scan.specs.declared.answer.Answer.the-variants.{Samples, Refused}
+use Rattle.scan.specs.declared.answer.ListAnswer.{ListAnswer}
+use Rattle.scan.specs.declared.answer.ListAnswer.the-variants.{Samples, Refused}
 
 -- x y z from one byte of a list on are x y z from a byte of another on.
 pub record SameCell (list : List ℕ) (at : ℕ) (back : List ℕ) (place : ℕ) : Type 0 where
@@ -27,7 +27,7 @@ pub record FromOtherEnd (c r : Curve) : Type 0 where
   pub mark : r .mark ≡ c .mark
 
 -- The two listings agree: the same refusal; or as many samples, and the same cells in reverse order.
-abbrev pub Agree : (list back : List ℕ) (one other : Answer) → Type 0
+abbrev pub Agree : (list back : List ℕ) (one other : ListAnswer) → Type 0
 Agree list back (Samples n) (Samples m) = (n ≡ m) × Reversed n list back
 Agree list back (Samples n) (Refused k) = ⊥
 Agree list back (Refused k) (Samples n) = ⊥

@@ -5,7 +5,7 @@ ghost use lib.Dec.{T};
 ghost use lib.ListN.{length};
 ghost use Rattle.both_ends.specs.Ends.{Agree, FromOtherEnd, Reversed, SameCell};
 use curve::Curve;
-use scan::answer::Answer;
+use scan::answer::ListAnswer;
 
 // The curve with its points in reverse order.
 pub fn from_other_end(curve: Curve) -> Curve
@@ -34,17 +34,17 @@ pub fn from_other_end(curve: Curve) -> Curve
 }
 
 // Whether two listings have the same refusal, or the same cells in reverse order.
-pub fn agree(one: Answer, other: Answer, list: &[u8], back: &[u8]) -> bool
+pub fn agree(one: ListAnswer, other: ListAnswer, list: &[u8], back: &[u8]) -> bool
     ensures { λ r. ⌜ T r ↔ Agree (now (list .entry)) (now (back .entry)) one other ⌝ }
 {
     match one {
-        Answer::Samples(n) => match other {
-            Answer::Samples(m) => n == m && is_reversed(list, back, n as usize),
-            Answer::Refused(_) => false,
+        ListAnswer::Samples(n) => match other {
+            ListAnswer::Samples(m) => n == m && is_reversed(list, back, n as usize),
+            ListAnswer::Refused(_) => false,
         },
-        Answer::Refused(k) => match other {
-            Answer::Samples(_) => false,
-            Answer::Refused(l) => k == l,
+        ListAnswer::Refused(k) => match other {
+            ListAnswer::Samples(_) => false,
+            ListAnswer::Refused(l) => k == l,
         },
     }
 }
