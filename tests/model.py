@@ -3,7 +3,7 @@
 Whole numbers and fractions are exact throughout; there are no differences and no remainders here.  Imported, the module
 gives the expected answers of test programs.  Run as `python3 tests/model.py`, it checks itself on the documents' samples
 and exits with 1 if a check fails.  Quoted words are document 01's, for demand 3 also the demand's own, and for cells of
-samples, neighbours, hues and totals document 02's.
+samples, neighbours, hues, totals and new cells document 02's.
 """
 
 import random
@@ -102,6 +102,7 @@ def owner(exact):
     return ceil(exact - Fraction(1, 2))
 
 
+@lru_cache(maxsize=2)
 def cells(record):
     """The cell of every sample, by its indices: it "depends on its value alone" (document 02, A.3)."""
     return {
@@ -130,10 +131,19 @@ def steps_too_long(record):
 
 
 class Answer(NamedTuple):
-    """The refusal number or None, the count if accepted, and what the lent grid or list holds afterwards."""
+    """The refusal number or None, the count if accepted, and what the lent list or text holds afterwards."""
 
     refusal: Optional[int]
     count: Optional[int]
+    lent: bytes
+
+
+class DrawAnswer(NamedTuple):
+    """The refusal number or None, the numbers of samples and of new cells if accepted, and the grid afterwards."""
+
+    refusal: Optional[int]
+    count: Optional[int]
+    new: Optional[int]
     lent: bytes
 
 
@@ -162,15 +172,28 @@ def drawing_refusal(side, record, grid_length):
     )
 
 
+def unmarked(grid):
+    """How many cells are unmarked, which is byte 0."""
+    return grid.count(0)
+
+
 def draw(side, record, grid):
-    """Draws a curve or a patch: "writes the mark in every sample's cell, nothing else", answers their number."""
+    """Draws a curve or a patch: "writes the mark in every sample's cell, nothing else", answers their number.
+
+    The count of new cells, which "it turned from unmarked to marked", is "the unmarked cells before minus those after".
+    """
     refusal = drawing_refusal(side, record, len(grid))
     if refusal is not None:
-        return Answer(refusal, None, bytes(grid))
+        return DrawAnswer(refusal, None, None, bytes(grid))
     drawn = bytearray(grid)
     for cell in cells(record).values():
         drawn[place(side, cell)] = record.mark
-    return Answer(None, prod(n + 1 for n in record.counts), bytes(drawn))
+    return DrawAnswer(None, prod(n + 1 for n in record.counts), unmarked(grid) - unmarked(drawn), bytes(drawn))
+
+
+def new_places(side, record, grid):
+    """The places of the cells that a drawing turns from unmarked to marked: a second way to its count."""
+    return {at for at in (place(side, cell) for cell in cells(record).values()) if grid[at] == 0}
 
 
 def listing_refusal(side, record, list_length):
@@ -336,13 +359,19 @@ FIELD = re.compile(rb" *(0|[1-9][0-9]*)")
 
 
 class SheetAnswer(NamedTuple):
-    """Refusal and line if refused, side and number of curve lines if accepted, and the buffer afterwards."""
+    """Refusal and line if refused; side, curve lines and new cells if accepted; and the buffer afterwards."""
 
     refusal: Optional[int]
     line: Optional[int]
     side: Optional[int]
     curves: Optional[int]
+    new: Optional[int]
     buffer: bytes
+
+
+def refused_sheet(refusal, line, buffer):
+    """The answer of a refused sheet call, which "answers no count"."""
+    return SheetAnswer(refusal, line, None, None, None, bytes(buffer))
 
 
 def read_field(field):
@@ -400,21 +429,25 @@ def curve_line_refusal(side, number, line):
 
 
 def draw_sheet(text, buffer):
-    """Draws into "the first S × S × S bytes of a lent buffer of exactly 64000 bytes, cleared to 0 first"."""
+    """Draws into "the first S × S × S bytes of a lent buffer of exactly 64000 bytes, cleared to 0 first".
+
+    "Over a sheet, from its cleared cube, the counts add up", stroke by stroke, and the call "answers that sum too".
+    """
     if len(buffer) != BUFFER_LENGTH:
-        return SheetAnswer(21, 0, None, None, bytes(buffer))
+        return refused_sheet(21, 0, buffer)
     lines = sheet_lines(text) or [b""]  # no line 1 is refused as a line 1 of wrong length
     refusal = side_line_refusal(lines[0])
     if refusal is not None:
-        return SheetAnswer(refusal, 1, None, None, bytes(buffer))
+        return refused_sheet(refusal, 1, buffer)
     side = read_line(lines[0])[0]
-    grid = bytes(side**3)
+    grid, new = bytes(side**3), 0
     for number, line in enumerate(lines[1:], 2):
         refusal = curve_line_refusal(side, number, line)
         if refusal is not None:
-            return SheetAnswer(refusal, number, None, None, bytes(buffer))
-        grid = draw(side, line_curve(line), grid).lent
-    return SheetAnswer(None, None, side, len(lines) - 1, grid + bytes(buffer[len(grid) :]))
+            return refused_sheet(refusal, number, buffer)
+        stroke = draw(side, line_curve(line), grid)
+        grid, new = stroke.lent, new + stroke.new
+    return SheetAnswer(None, None, side, len(lines) - 1, new, grid + bytes(buffer[len(grid) :]))
 
 
 def refusal_line(number, line, text):
@@ -426,6 +459,7 @@ def refusal_line(number, line, text):
     return Answer(None, len(written), written + bytes(text[len(written) :]))
 
 
+@lru_cache(maxsize=1)
 def sheet_printed(answer):
     """A sheet call's answer in print: "a heading, then x, y, z and mark of each marked cell, in rising byte place"."""
     if answer.refusal is not None:
@@ -459,6 +493,7 @@ def totals(side, cube):
     return b"".join(totals_line(mark, held[mark]) for mark in sorted(held)) + totals_line(0, unmarked)
 
 
+@lru_cache(maxsize=1)
 def totals_printed(answer):
     """A sheet call's answer as the totals program prints it, a refused one with "the same REFUSED line"."""
     if answer.refusal is not None:
@@ -469,6 +504,14 @@ def totals_printed(answer):
 def totals_output(text):
     """What the totals program prints, which "reads a sheet from standard input and draws it as the first does"."""
     return totals_printed(draw_sheet(text, bytes(BUFFER_LENGTH)))
+
+
+def marked_cells(answer):
+    """The "marked cells of the listing" of an accepted sheet, three ways: its cube's, the listing's, the totals'."""
+    cube = answer.buffer[: answer.side**3]
+    listed = sheet_lines(sheet_printed(answer).removeprefix(HEADING))
+    count_of_0 = int(sheet_lines(totals_printed(answer))[-1][10:20])
+    return len(cube) - unmarked(cube), len(listed), len(cube) - count_of_0
 
 
 # Demand 3, for a list of calls (side, record) and the grids before the first call and after each call
@@ -575,12 +618,22 @@ class Checks:
             print(f"FAILED {group}: {label}: found {found!r}, expected {expected!r}")
 
     def draw(self, group, side, record, grid):
-        """A drawing; in an accepted patch the cells of all neighbours are compared: none are more than one apart."""
+        """A drawing; if accepted, its new cells are counted in other ways, and a patch's neighbours compared."""
         answer = draw(side, record, grid)
+        if answer.refusal is None:
+            ways = len(new_places(side, record, grid)), counted(side, record, grid)
+            self.equal(group, f"new cells of {record}", ways, (answer.new, answer.new))
         if answer.refusal is None and len(record.counts) == 2:
             found = neighbour_distances(record, cells(record))
             self.distances.update(found)
             self.equal(group, f"neighbours of {record}", max(distance for _, distance in found) <= 1, True)
+        return answer
+
+    def sheet(self, group, label, text, buffer):
+        """A sheet call; if accepted, the sum of its new cells is the number of its marked cells."""
+        answer = draw_sheet(text, buffer)
+        if answer.refusal is None:
+            self.equal(group, f"marked cells, {label}", marked_cells(answer), (answer.new,) * 3)
         return answer
 
     def close(self):
@@ -647,6 +700,23 @@ def cells_with_halves_to_even(record):
 def cells_with_halves_up(record):
     """Cells within half a cell of their samples, and none skipped: 1/2 goes to 1 and 3/2 to 2."""
     return cells_with_halves(record, lambda exact: floor(exact + Fraction(1, 2)))
+
+
+def counted(side, record, grid, is_new=lambda byte, mark, i: byte == 0):
+    """The new cells counted as they are written, row by row, by what a byte is before sample i of its row is written."""
+    held, count = bytearray(grid), 0
+    for indices, cell in sorted(cells(record).items(), key=lambda sample: sample[0][::-1]):
+        at = place(side, cell)
+        count += is_new(held[at], record.mark, indices[0])
+        held[at] = record.mark
+    return count
+
+
+WRONG_COUNTS = {  # what a program may take for a new cell
+    "every sample": lambda byte, mark, i: True,
+    "another mark too": lambda byte, mark, i: byte != mark,
+    "all but the first of a row": lambda byte, mark, i: byte == 0 and i > 0,
+}
 
 
 def grid_of_points(coordinate):
@@ -763,7 +833,7 @@ def check_neighbours(checks):
     group = "neighbours"
     record = patch(HALVES_IN_BOTH_ROWS, 2, 1, 9)
     drawn = bytes([9, 9, 0, 9, 9, 0, 0, 9, 9] + [0] * 18)
-    checks.equal(group, "halves in both rows", checks.draw(group, 3, record, bytes(27)), Answer(None, 6, drawn))
+    checks.equal(group, "halves in both rows", checks.draw(group, 3, record, bytes(27)), DrawAnswer(None, 6, 6, drawn))
     for label, rule, rows, distances in (
         ("down", cells, [[0, 0, 1], [1, 1, 2]], {("t", 1): 4, ("u", 1): 3}),
         ("up", cells_with_halves_up, [[0, 1, 1], [1, 2, 2]], {("t", 1): 4, ("u", 1): 3}),
@@ -776,7 +846,7 @@ def check_neighbours(checks):
     squares = {place(7, (i + j, 3 + i - j, 0)) for i in range(4) for j in range(4)}
     drawn = bytes(9 if at in squares else 0 for at in range(343))
     record = patch(CHESSBOARD, 3, 3, 9)
-    checks.equal(group, "a chessboard", checks.draw(group, 7, record, bytes(343)), Answer(None, 16, drawn))
+    checks.equal(group, "a chessboard", checks.draw(group, 7, record, bytes(343)), DrawAnswer(None, 16, 16, drawn))
     dice = random.Random(7)
     records = (
         patch([dice.randrange(3) for _ in range(48)], 2 * dice.randrange(2, 5), dice.randrange(3, 7), 1)
@@ -811,7 +881,7 @@ def check_refusals(checks):
         ):
             record = shape(coordinates, n, *later, mark)
             answer = checks.draw(group, side, record, grid)
-            checks.equal(group, f"draw {side} {len(grid)} {record}", answer, Answer(expected, None, grid))
+            checks.equal(group, f"draw {side} {len(grid)} {record}", answer, DrawAnswer(expected, None, None, grid))
         record = shape(near, limit, *later, 255)
         expected = limit + 1 if shape is curve else 2 * (limit + 1)
         checks.equal(group, f"draw {record}", checks.draw(group, 8, record, held)[:2], (None, expected))
@@ -1067,14 +1137,15 @@ def check_sheet(checks):
         checks.equal(group, label, sheet_output(text), expected)
         checks.equal(group, f"totals, {label}", totals_output(text), expected)
         held = bytes([5]) * 64000
-        checks.equal(group, label, draw_sheet(text, held), SheetAnswer(refusal, line, None, None, held))
-    answer = draw_sheet(SAMPLE_SHEET, bytes([5]) * 64000)
-    expected = SheetAnswer(None, None, 4, 1, bytes([7] * 4 + [0] * 60 + [5] * 63936))
+        checks.equal(group, label, draw_sheet(text, held), refused_sheet(refusal, line, held))
+    answer = checks.sheet(group, "the sample sheet", SAMPLE_SHEET, bytes([5]) * 64000)
+    expected = SheetAnswer(None, None, 4, 1, 4, bytes([7] * 4 + [0] * 60 + [5] * 63936))
     checks.equal(group, "the sample sheet's buffer", answer, expected)
-    checks.equal(group, "200 curve lines", draw_sheet(side + good * 200, bytes(64000))[:4], (None, None, 4, 200))
+    answer = checks.sheet(group, "200 curve lines", side + good * 200, bytes(64000))
+    checks.equal(group, "200 curve lines", answer[:5], (None, None, 4, 200, 4))
     for length in 0, 63999, 64001:
         held = bytes([5]) * length
-        checks.equal(group, f"buffer {length}", draw_sheet(b"", held), SheetAnswer(21, 0, None, None, held))
+        checks.equal(group, f"buffer {length}", draw_sheet(b"", held), refused_sheet(21, 0, held))
     over = side + good + format_line(12, 1, *[1, 0, 0] * 4) + format_line(255, 1, *[3, 3, 3] * 4)
     expected = SAMPLE_LISTING.replace(b"    1    0    0    7\n", b"    1    0    0   12\n") + b"    3    3    3  255\n"
     checks.equal(group, "lines in turn", sheet_output(over), expected)
@@ -1123,6 +1194,60 @@ def check_totals(checks):
             checks.equal(group, f"cube {number}, count of {mark}", count, cube.count(mark))
         sums = [sum(column) for column in zip(*table, strict=True)]
         checks.equal(group, f"cube {number}, sums over all lines", sums[1:], [side**3, *[side**3 * (side - 1) // 2] * 3])
+
+
+def check_new_cells(checks):
+    """Counts of new cells, which wrong ways of counting do not give, and the sums of sheets."""
+    group = "new cells"
+    line = [0, 3, 0, 2, 3, 0, 5, 3, 0, 7, 3, 0]
+    across = [3, 0, 0, 3, 2, 0, 3, 5, 0, 3, 7, 0]  # 8 cells as well, of which (3, 3, 0) is in both
+    half = bytes([0, 6] * 256)  # marked where x is odd
+    plane = grid_of_points(lambda i, j: ((0, 2, 5, 7)[i], (0, 2, 5, 7)[j], 0))
+    drawn = draw(8, curve(line, 21, 9), bytes(512)).lent
+    for label, record, grid, new, wrong in (
+        ("a line", curve(line, 21, 9), bytes(512), 8, (22, 8, 7)),
+        ("over itself", curve(line, 21, 9), drawn, 0, (22, 0, 0)),
+        ("over itself, another mark", curve(line, 21, 8), drawn, 0, (22, 8, 0)),
+        ("across", curve(across, 21, 9), drawn, 7, (22, 7, 6)),
+        ("across, another mark", curve(across, 21, 8), drawn, 7, (22, 8, 6)),
+        ("a full grid", curve(line, 21, 9), bytes([255]) * 512, 0, (22, 8, 0)),
+        ("every second byte", curve(line, 21, 9), half, 4, (22, 8, 3)),
+        ("one cell", curve([5] * 12, 512, 9), bytes(512), 1, (513, 1, 0)),
+        ("there and back", curve(on_axis(1, (0, 3, 3, 0)), 9, 9), bytes(512), 3, (10, 3, 2)),
+        ("a plane", patch(plane, 21, 21, 9), bytes(512), 64, (484, 64, 56)),
+        ("a plane over the line", patch(plane, 21, 21, 9), drawn, 56, (484, 56, 49)),
+        ("a plane over every second byte", patch(plane, 21, 21, 9), half, 32, (484, 64, 24)),
+        ("one cell, a patch", patch([5] * 48, 16, 16, 9), bytes(512), 1, (289, 1, 0)),
+    ):
+        answer = checks.draw(group, 8, record, grid)
+        found = tuple(counted(8, record, grid, rule) for rule in WRONG_COUNTS.values())
+        checks.equal(group, label, answer[:3], (None, prod(n + 1 for n in record.counts), new))
+        checks.equal(group, f"{label}, wrong counts", found, wrong)
+    for number, record in (12, curve(line, 21, 0)), (13, curve(line, 513, 9)), (15, curve(line, 1, 9)):
+        checks.equal(group, f"{number}", draw(8, record, bytes(512)), DrawAnswer(number, None, None, bytes(512)))
+    stroke, cell = format_line(7, 3, *on_axis(0, (0, 1, 2, 3))), format_line(9, 1, *[0] * 12)
+    for label, strokes, new in (
+        ("no line", [], 0),
+        ("a line twice", [stroke, stroke], 4),
+        ("a last line that adds nothing", [stroke, cell], 4),
+        ("a first line that the second covers", [cell, stroke], 4),
+        ("no overlap", [format_line(k, 3, *[0, k, 0, 1, k, 0, 2, k, 0, 3, k, 0]) for k in (1, 2, 3)], 12),
+    ):
+        for held in 0, 7, 255:
+            text = format_line(4) + b"".join(strokes)
+            answer = checks.sheet(group, label, text, bytes([held]) * BUFFER_LENGTH)
+            checks.equal(group, f"{label}, bytes {held}", answer[:5], (None, None, 4, len(strokes), new))
+    dice = random.Random(8)
+    for number in range(60):
+        side = dice.randrange(2, 41)
+        records = (random_record(dice, side) for _ in range(dice.randrange(1, 20)))
+        strokes = [r for r in records if len(r.counts) == 1 and drawing_refusal(side, r, side**3) is None]
+        text = format_line(side) + b"".join(format_line(r.mark, *r.counts, *r.coordinates) for r in strokes)
+        sums = [checks.sheet(group, f"sheet {number}", text, bytes([held]) * BUFFER_LENGTH).new for held in (0, 9)]
+        grids = run([(side, record) for record in strokes], bytes(side**3))
+        places = set().union(*(new_places(side, record, bytes(side**3)) for record in strokes))
+        checks.equal(group, f"sheet {number}, sums", sums, [len(places)] * 2)
+        checks.equal(group, f"sheet {number}, before and after", sums[0], unmarked(grids[0]) - unmarked(grids[-1]))
 
 
 def check_demand_3_can_fail(checks):
@@ -1199,12 +1324,15 @@ def check_random_calls(checks):
         start = dice.randbytes(side**3) if dice.randrange(2) else bytes(side**3)
         grids = run(calls, start)
         checks.equal(group, f"list {number}", demand_3(calls, grids), True)
+        news = []
         for k, (called, record) in enumerate(calls):
             answer = checks.draw(group, called, record, grids[k])
+            news.append(answer.new or 0)
             if answer.refusal is not None:
                 checks.equal(group, f"list {number}, call {k}, grid kept", grids[k + 1], grids[k])
             key = (len(record.counts), answer.refusal)
             answered[key] = answered.get(key, 0) + 1
+        checks.equal(group, f"list {number}, new cells", sum(news), unmarked(start) - unmarked(grids[-1]))
     curves = {number: count for (parameters, number), count in answered.items() if parameters == 1}
     patches = {number: count for (parameters, number), count in answered.items() if parameters == 2}
     checks.equal(group, "every answer occurs", set(curves) | set(patches), {None, 11, 21, 12, 13, 14, 15})
@@ -1227,6 +1355,7 @@ def self_check():
         check_hues,
         check_sheet,
         check_totals,
+        check_new_cells,
         check_demand_3_can_fail,
         check_random_calls,
     ):
