@@ -2,8 +2,9 @@
 
 `python3 tests/drawing_cases.py` writes crates/drawing_cases/stdin and stdout; with `--check` it writes nothing and exits
 with 1 if they are not what it would write; with `--count` it prints how many cases of each letter got each answer, how
-many of the curves listed from both ends have a sample exactly on a half, and how many neighbours of the accepted patches
-have had their cells compared.  The forms of both are described in crates/drawing_cases/src.
+many of the curves listed from both ends have a sample exactly on a half, how many neighbours of the accepted patches
+have had their cells compared, and for how many drawings a wrong count of new cells is another number.  The forms of both
+are described in crates/drawing_cases/src.
 """
 
 import random
@@ -12,13 +13,13 @@ from collections import Counter
 from itertools import combinations, permutations, product
 
 from model import (
-    CHESSBOARD, HALVES_IN_BOTH_ROWS, K1_TO_K11, Answer, cells, cells_with_halves_to_even, cells_with_halves_up, curve,
-    distances_line, draw, drawing_refusal, from_other_end, grid_of_points, list_curve, neighbour_distances, on_axis, patch,
-    place, samples,
+    CHESSBOARD, HALVES_IN_BOTH_ROWS, K1_TO_K11, WRONG_COUNTS, Answer, cells, cells_with_halves_to_even,
+    cells_with_halves_up, counted, curve, distances_line, draw, drawing_refusal, from_other_end, grid_of_points, list_curve,
+    neighbour_distances, new_places, on_axis, patch, place, samples,
 )  # fmt: skip
 from stored import answer_record, case_record, malformed, store
 
-NUMBERS, ANSWERS = 21, 4  # in a case, in an answer
+NUMBERS, ANSWERS = 21, 5  # in a case, in an answer
 BUFFER = 262144
 LONGEST_LIST = 1539
 PRIMES = 99999989, 99999959
@@ -43,7 +44,7 @@ def list_from_both_ends(side, record, lent):
 
 
 CALLS = {"D": draw, "L": list_curve, "E": list_from_both_ends, "C": check, "P": draw, "Q": check}
-ON_PATCHES = "PQ"
+ON_PATCHES, DRAWINGS = "PQ", "DP"
 
 
 def right_length(letter, side, n):
@@ -76,6 +77,7 @@ class Cases:
         self.answered = Counter()
         self.halves = Counter()  # the accepted curves listed from both ends, by where they have a sample on a half
         self.distances = Counter()  # of the cells of neighbours in accepted patches
+        self.miscounted = Counter()  # the accepted drawings, by the wrong ways to count that give another number
 
     def add(self, letter, numbers, answer, kind, form="d"):
         """One case with its answer."""
@@ -86,7 +88,7 @@ class Cases:
         """Byte i becomes first + step × i, modulo 256."""
         period = bytes((first + step * i) % 256 for i in range(256))
         self.buffer[:length] = (period * (length // 256 + 1))[:length]
-        self.add("F", (first, step, 0, length), ("F", (0, *holding(self.buffer[:length]))), "filled")
+        self.add("F", (first, step, 0, length), ("F", (0, 0, *holding(self.buffer[:length]))), "filled")
 
     def show(self, place=0, stride=1):
         """16 bytes, a stride apart, four to a number."""
@@ -96,21 +98,28 @@ class Cases:
         self.add("S", (place, stride), ("S", numbers), "shown", "x")
 
     def call(self, letter, side, record, length=None):
-        """A call that is lent the first bytes of the buffer, by default as many as it asks for; its refusal."""
+        """A call that is lent the first bytes of the buffer, by default as many as it asks for; its answer."""
         n, *m = record.counts
         length = right_length(letter, side, n) if length is None else length
-        answer = CALLS[letter](side, record, bytes(self.buffer[:length]))
+        lent = bytes(self.buffer[:length])
+        answer = CALLS[letter](side, record, lent)
         self.buffer[:length] = answer.lent
         points = zip(*(record.coordinates[axis::3] for axis in range(3)))
         numbers = (side, n, record.mark, length, *(m or (0,)), *(x << 16 | y << 8 | z for x, y, z in points))
-        accepted, refused = ("A", (answer.count, *holding(answer.lent))), ("R", (answer.refusal, *holding(answer.lent)))
-        self.add(letter, numbers, accepted if answer.refusal is None else refused, answer.refusal or "accepted")
+        drawn = letter in DRAWINGS and answer.refusal is None
+        said = ("A", answer.count) if answer.refusal is None else ("R", answer.refusal)
+        held = answer.new if drawn else 0, *holding(answer.lent)
+        self.add(letter, numbers, (said[0], (said[1], *held)), answer.refusal or "accepted")
+        if drawn:
+            assert answer.new == len(new_places(side, record, lent)), record
+            wrong = {way: counted(side, record, lent, is_new) for way, is_new in WRONG_COUNTS.items()}
+            self.miscounted.update(way for way, count in wrong.items() if count != answer.new)
         if letter == "E" and answer.refusal is None:
             found = {*halves(record)}
             self.halves.update(found | ({("any axis", "any way")} if found else set()))
         if letter in ON_PATCHES and answer.refusal is None:
             self.distances.update(neighbour_distances(record, cells(record)))
-        return answer.refusal
+        return answer
 
     def all_calls(self, side, record):
         """A drawing into an unmarked grid, a listing into a list that holds bytes, and a check."""
@@ -126,13 +135,13 @@ def document_samples(cases):
     for axis, (_, points, n, _, refusal) in product(range(3), K1_TO_K11):
         record = curve(on_axis(axis, points), n, MARK)
         cases.fill(512)
-        assert cases.call("D", 8, record) == refusal
+        assert cases.call("D", 8, record).refusal == refusal
         cases.show(0, 8**axis)
         cases.fill(3 * n + 8, 17, 3)
-        assert cases.call("L", 8, record) == refusal
+        assert cases.call("L", 8, record).refusal == refusal
         for place in range(0, 3 * n + 3, 16):
             cases.show(place)
-        assert cases.call("C", 8, record) == refusal
+        assert cases.call("C", 8, record).refusal == refusal
 
 
 def limits(cases):
@@ -175,17 +184,24 @@ PATCH_FAULTS = {**FAULTS, 13: ({"n": 257}, {"m": 0})}
 PATCH_ORDERS = {"P": ORDERS["D"], "Q": ORDERS["C"]}
 
 
+def call_with_faults(cases, letter, faults, record_of, numbers, way=0):
+    """A call with the faults of some numbers, given in their order: the first is answered; its answer."""
+    length = 512 if right_length(letter, 8, 1) else 0
+    call = {"side": 8, "n": 1, "m": 1, "mark": MARK, "x": 0, "z": 0, "length": length}
+    for number in numbers:
+        call.update(faults[number][way])
+    answer = cases.call(letter, call["side"], record_of(call), call["length"])
+    assert answer.refusal == next(iter(numbers), None)
+    return answer
+
+
 def refusals(cases, orders, faults, record_of):
     """Each call with every choice of up to three faults and with all: the first of the order is answered."""
     cases.fill(BUFFER, 1, 1)
     for letter, order in orders.items():
         for way, size in product(range(2), (0, 1, 2, 3, len(order))):
             for numbers in combinations(order, size):
-                length = 512 if right_length(letter, 8, 1) else 0
-                call = {"side": 8, "n": 1, "m": 1, "mark": MARK, "x": 0, "z": 0, "length": length}
-                for number in numbers:
-                    call.update(faults[number][way])
-                assert cases.call(letter, call["side"], record_of(call), call["length"]) == next(iter(numbers), None)
+                call_with_faults(cases, letter, faults, record_of, numbers, way)
 
 
 def faulty_curve(call):
@@ -240,14 +256,14 @@ def patch_samples(cases):
     for z in (0, 0, 0, 0), (0, 0, 2, 2):
         cases.fill(512)
         k12 = patch(grid_of_points(lambda i, j: (i + j, j if any(z) else 0, z[j])), 4, 4, MARK)
-        assert cases.call("P", 8, k12) is None
+        assert cases.call("P", 8, k12).refusal is None
         for place in range(0, 192, 16):
             cases.show(place)
         cases.call("Q", 8, k12)
     for axis, (n, refusal) in product(range(3), ((2, 15), (3, None), (4, None))):
         k1 = patch(grid_of_points(lambda i, j: [i if axis == a else 0 for a in range(3)]), n, 1, MARK)
         cases.fill(64)
-        assert cases.call("P", 4, k1) == refusal
+        assert cases.call("P", 4, k1).refusal == refusal
         cases.show(0, 4**axis)
         cases.call("Q", 4, k1)
 
@@ -265,12 +281,12 @@ def patch_neighbours(cases):
         )
         assert right not in (up, even)
         cases.fill(27)
-        assert cases.call("P", 3, record) is None
+        assert cases.call("P", 3, record).refusal is None
         cases.show(0)
         cases.show(16)
         cases.call("Q", 3, record)
     cases.fill(343)
-    assert cases.call("P", 7, patch(CHESSBOARD, 3, 3, MARK)) is None
+    assert cases.call("P", 7, patch(CHESSBOARD, 3, 3, MARK)).refusal is None
     for at in range(0, 49, 16):
         cases.show(at)
 
@@ -385,7 +401,7 @@ def both_ends(cases, dice):
     """Curves listed from both ends: K1 to K11, the ends of the ranges, lines through halves, and random ones."""
     cases.fill(LONGEST_LIST, 29, 5)
     for axis, (_, points, n, _, refusal) in product(range(3), K1_TO_K11):
-        assert cases.call("E", 8, curve(on_axis(axis, points), n, MARK)) == refusal
+        assert cases.call("E", 8, curve(on_axis(axis, points), n, MARK)).refusal == refusal
     for side in 0, 1, 2, 3, 63, 64, 65, LARGEST:
         cases.call("E", side, curve([min(max(side - 1, 0), 255)] * 12, 1, MARK))
     for n, points in product((0, 1, 2, 511, 512, 513, LARGEST), (on_axis(2, (0, 63, 0, 63)), [63, 0, 31] * 4)):
@@ -410,6 +426,95 @@ def both_ends(cases, dice):
     assert all(cases.halves[axis, way] >= 250 for axis, way in product("xyz", ("rising", "falling"))), cases.halves
 
 
+def line(start, end, mark=MARK, n=None):
+    """A straight curve between two cells, in as many steps as surely fit, or in n."""
+    fits = 3 * max(abs(a - b) for a, b in zip(start, end))
+    return curve([*start, *start, *end, *end], n or max(fits, 1), mark)
+
+
+def plane(axis, at, low=(0, 0), high=(7, 7), mark=MARK):
+    """A patch over a part of a plane across an axis; t runs along the first of the other two axes."""
+    def coordinate(i, j):
+        around = [low[0] if i < 2 else high[0], low[1] if j < 2 else high[1]]
+        return [*around[:axis], at, *around[axis:]]
+
+    n, m = (max(1, 3 * (b - a)) for a, b in zip(low, high))
+    return patch(grid_of_points(coordinate), n, m, mark)
+
+
+def draw_in_turn(cases, side, *drawings):
+    """Drawings one over another, each with the number of its new cells."""
+    for record, new in drawings:
+        answer = cases.call("D" if len(record.counts) == 1 else "P", side, record)
+        assert (answer.refusal, answer.new) == (None, new), (record, answer[:3])
+
+
+def new_over_drawings(cases):
+    """From an empty grid: over itself and from its other end, across, one cell in many steps, planes and lines."""
+    for axis in range(3):
+        others = [a for a in range(3) if a != axis]
+        start, end = ([c if a == axis else 3 for a in range(3)] for c in (0, 7))
+        across = [line(*([c if a == other else 3 for a in range(3)] for c in (0, 7))) for other in others]
+        cases.fill(512)
+        draw_in_turn(
+            cases, 8, (line(start, end, 9), 8), (line(start, end, 9), 0), (line(start, end, 255), 0),
+            (line(end, start, 1), 0), (across[0], 7), (across[1], 7), (line((0, 0, 0), (7, 7, 7)), 7),
+            (line((7, 0, 7), (7, 0, 7), 5, 512), 1), (line((7, 0, 7), (7, 0, 7), 6, 512), 0),
+        )  # fmt: skip
+        cases.fill(512)
+        draw_in_turn(
+            cases, 8, (line(start, end), 8), (plane(others[0], 3), 56), (plane(others[1], 3), 56),
+            (plane(others[1], 3, mark=9), 0), (line(end, start, 7), 0), (line((0, 0, 0), (0, 0, 0), 3, 512), 1),
+            (plane(0, 0, (0, 0), (0, 0), 4), 0), (plane(axis, 3), 49),
+        )  # fmt: skip
+    loop = curve((3, 0, 4, 7, 7, 4, 0, 7, 4, 4, 0, 4), 40, MARK)
+    there_and_back = curve(on_axis(1, (0, 3, 3, 0)), 9, MARK)
+    one_line = patch(grid_of_points(lambda i, j: (7, (0, 0, 7, 7)[i], 0)), 21, 5, MARK)
+    cases.fill(512)
+    draw_in_turn(cases, 8, (loop, len({*cells(loop).values()})), (there_and_back, 3), (one_line, 8), (one_line, 0))
+
+
+def new_over_bytes(cases):
+    """Into grids full of marks, with a mark at every second byte, and with all cells but one marked."""
+    for held in MARK, 255:
+        cases.fill(512, held)
+        draw_in_turn(cases, 8, (line((0, 0, 0), (7, 7, 7)), 0), (plane(2, 5), 0), (line((1, 2, 3), (1, 2, 3), 255, 512), 0))
+    for first, odd in (0, 0), (128, 1):
+        cases.fill(512, first, 128)
+        along_y = line((2, 0, 0), (2, 7, 0))
+        draw_in_turn(cases, 8, (line((0, 1, 1), (7, 1, 1), 128), 4), (along_y, 8 - 8 * odd), (plane(2, 7), 32))
+        cases.fill(125, first, 128)
+        draw_in_turn(cases, 5, (line((0, 0, 0), (4, 0, 0)), 3 - odd), (plane(2, 2, high=(4, 4)), 13 - odd))
+    for record in (
+        line((0, 3, 1), (5, 3, 1)), line((2, 3, 1), (5, 3, 1)), line((5, 3, 1), (2, 3, 1)), line((2, 3, 1), (2, 3, 1), 56),
+        plane(2, 1, high=(5, 5)), plane(2, 1, (2, 0), (5, 5)), plane(2, 1, (0, 0), (2, 3)), plane(0, 2, (3, 1), (5, 4)),
+    ):  # fmt: skip
+        cases.fill(216, 200, 1)  # byte 56, of cell (2, 3, 1), becomes 0, and no other
+        draw_in_turn(cases, 6, (record, 1))
+
+
+def new_refused(cases):
+    """Each number refuses a drawing into an empty grid, which stays empty: the drawing without a fault finds it so."""
+    for letter, faults, record_of in ("D", FAULTS, faulty_curve), ("P", PATCH_FAULTS, faulty_patch):
+        cases.fill(512)
+        for number in ORDERS["D"]:
+            assert call_with_faults(cases, letter, faults, record_of, [number]).new is None
+        assert call_with_faults(cases, letter, faults, record_of, []).new == 1
+
+
+def new_in_large_cubes(cases, dice):
+    """Two planes of the largest cube; and random drawings, whose new cells add up to the marked ones."""
+    cases.fill(BUFFER)
+    draw_in_turn(cases, 64, (plane(2, 63, high=(63, 63)), 4096), (plane(0, 63, high=(63, 63)), 4032))
+    side, new = 17, 0
+    cases.fill(side**3)
+    for letter in "DPDDPDDPDDPD":
+        points, counts, mark = random_record(dice, letter, side)
+        answer = cases.call(letter, side, (patch if letter in ON_PATCHES else curve)(points, *counts, mark))
+        new += answer.new or 0
+    assert new == side**3 - answer.lent.count(0) >= 100, new
+
+
 def no_cases(cases):
     """Records that are no case, of another form or lent more than there is; and bytes shown past the buffer's end."""
     first = cases.records[0][0]
@@ -432,14 +537,20 @@ def main():
     refusals(cases, PATCH_ORDERS, PATCH_FAULTS, faulty_patch)
     random_calls(cases, random.Random(2))
     both_ends(cases, random.Random(3))
+    for part in new_over_drawings, new_over_bytes, new_refused:
+        part(cases)
+    new_in_large_cubes(cases, random.Random(4))
     no_cases(cases)
     assert all(distance <= 1 for _, distance in cases.distances), cases.distances
+    assert all(cases.miscounted[way] > 500 for way in WRONG_COUNTS), cases.miscounted
     if "--count" in sys.argv[1:]:
         for (letter, kind), count in sorted(cases.answered.items(), key=str):
             print(letter, kind, count)
         for (axis, way), count in sorted(cases.halves.items()):
             print("E accepted, a sample on a half:", axis, way, count)
         print(distances_line(cases.distances))
+        for way in WRONG_COUNTS:
+            print(f"new cells counted wrongly, {way}: another number for", cases.miscounted[way], "drawings")
         return 0
     return store("drawing_cases", cases.records)
 

@@ -7,22 +7,23 @@ use cases::digest::extended;
 pub(crate) struct Answer {
     pub letter: u8,
     pub hexadecimal: bool,
-    pub numbers: [u32; 4],
+    pub numbers: [u32; 5],
 }
 
 // The answer to a record that is no case.
 pub(crate) fn none() -> Answer {
-    holding(b'B', 0, b"")
+    holding(b'B', 0, 0, b"")
 }
 
-// A letter and a number with three numbers for the lent bytes: their digest, begun with their number.
-pub(crate) fn holding(letter: u8, number: u32, lent: &[u8]) -> Answer {
+// A letter, a number, a number of new cells, and three for the lent bytes: their digest, begun with their number.
+pub(crate) fn holding(letter: u8, number: u32, new_cells: u32, lent: &[u8]) -> Answer {
     let held = extended(begun(lent.len() as u64), lent);
     Answer {
         letter,
         hexadecimal: false,
         numbers: [
             number,
+            new_cells,
             eight(held.marked),
             eight(held.first),
             eight(held.second),

@@ -15,7 +15,7 @@ pub(crate) fn fill(case: &[u8], lent: &mut [u8]) -> Answer
     let first = low_byte(number(case, 0));
     let step = low_byte(number(case, 1));
     cases::bytes::fill(lent, first, step);
-    holding(b'F', 0, lent)
+    holding(b'F', 0, 0, lent)
 }
 
 // Shows 16 bytes, a stride apart.
@@ -32,6 +32,7 @@ pub(crate) fn show(case: &[u8], buffer: &[u8]) -> Answer
             four(buffer, place + 4 * stride, stride),
             four(buffer, place + 8 * stride, stride),
             four(buffer, place + 12 * stride, stride),
+            0,
         ],
     }
 }

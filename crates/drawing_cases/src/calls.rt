@@ -9,20 +9,30 @@ use cases::record::number;
 use curve::Curve;
 use decide::Verdict;
 use patch::Patch;
+use scan::answer::DrawAnswer;
+use scan::answer::ListAnswer;
 
-// What a drawing or a listing answered, and what the bytes lent to it hold.
-pub(crate) fn called(answer: scan::answer::Answer, lent: &[u8]) -> Answer {
+// What a drawing answered, and what its grid holds.
+pub(crate) fn drawn(answer: DrawAnswer, grid: &[u8]) -> Answer {
     match answer {
-        scan::answer::Answer::Samples(n) => holding(b'A', n, lent),
-        scan::answer::Answer::Refused(n) => holding(b'R', n, lent),
+        DrawAnswer::Accepted(counts) => holding(b'A', counts.samples, counts.new_cells, grid),
+        DrawAnswer::Refused(n) => holding(b'R', n, 0, grid),
+    }
+}
+
+// What a listing answered, and what its list holds.
+pub(crate) fn listed(answer: ListAnswer, list: &[u8]) -> Answer {
+    match answer {
+        ListAnswer::Samples(n) => holding(b'A', n, 0, list),
+        ListAnswer::Refused(n) => holding(b'R', n, 0, list),
     }
 }
 
 // What a check answered, with nothing lent.
 pub(crate) fn checked(verdict: Verdict) -> Answer {
     match verdict {
-        Verdict::Accepted => holding(b'A', 0, b""),
-        Verdict::Refused(n) => holding(b'R', n, b""),
+        Verdict::Accepted => holding(b'A', 0, 0, b""),
+        Verdict::Refused(n) => holding(b'R', n, 0, b""),
     }
 }
 

@@ -3,8 +3,8 @@ ghost use mathlib.Core.Path.{_≡_};
 ghost use lib.ListN.{length};
 use crate::answer;
 use crate::answer::holding;
-use crate::calls::called;
 use crate::calls::curve_of;
+use crate::calls::listed;
 use both_ends::agree;
 use both_ends::from_other_end;
 use cases::record::number;
@@ -32,8 +32,8 @@ fn list_beside(case: &[u8], list: &mut [u8], own: &mut [u8]) -> answer::Answer
     let one = curve::list_curve(side, curve, list);
     let other = curve::list_curve(side, from_other_end(curve), back);
     if agree(one, other, list, back) {
-        called(one, list)
+        listed(one, list)
     } else {
-        holding(b'N', 0, list)
+        holding(b'N', 0, 0, list)
     }
 }

@@ -15,16 +15,17 @@
 // Numbers that a case does not use are 0. From its other end a curve has its points in reverse order; its list is then
 // another one, as long as the lent bytes, which are at most 1539. The answers are
 //
-//     A samples marked first second            accepted; the samples of a check are 0
-//     R number marked first second             refused
-//     N 0 marked first second                  from its other end refused otherwise, or not the same cells in reverse
-//     F 0 marked first second                  filled
-//     S bytes bytes bytes bytes                shown (hexadecimal)
+//     A samples new marked first second        accepted; the samples of a check are 0
+//     R number 0 marked first second           refused
+//     N 0 0 marked first second                from its other end refused otherwise, or not the same cells in reverse
+//     F 0 0 marked first second                filled
+//     S bytes bytes bytes bytes 0              shown (hexadecimal)
 //     B                                        no such case
 //
-// where marked, first and second say what the lent bytes hold afterwards (`answer::holding`); a check is lent none.
+// where new is the number of the cells that a drawing turned from unmarked to marked, 0 for a listing and a check, and
+// marked, first and second say what the lent bytes hold afterwards (`answer::holding`); a check is lent none.
 //
-// A case has 21 numbers, hence 190 bytes, and an answer four, hence 38 bytes.
+// A case has 21 numbers, hence 190 bytes, and an answer five, hence 47 bytes.
 mod answer;
 mod bytes;
 mod calls;
@@ -34,9 +35,10 @@ ghost use mathlib.Core.Path.{_≡_};
 ghost use Prim.Native.Nat.{_*_, _≤_};
 ghost use lib.ListN.{length};
 use answer::Answer;
-use calls::called;
 use calls::checked;
 use calls::curve_of;
+use calls::drawn;
+use calls::listed;
 use calls::patch_of;
 use cases::block::Progress;
 use cases::record::number;
@@ -53,31 +55,31 @@ fn main() {
 // Answers the next 1,024 cases, or as many as are left.
 fn answer_block(buffer: &mut [u8]) -> Progress {
     let mut records = [0u8; 194560];
-    let mut answers = [0u8; 38912];
+    let mut answers = [0u8; 48128];
     answer_input(&mut records, &mut answers, buffer)
 }
 
 // Reads cases until their buffer is full or the input ends, and writes the answers.
 fn answer_input(records: &mut [u8], answers: &mut [u8], buffer: &mut [u8]) -> Progress
-    requires { ⌜ (length (now records) ≡ 194560) × (length (now answers) ≡ 38912) ⌝ }
+    requires { ⌜ (length (now records) ≡ 194560) × (length (now answers) ≡ 48128) ⌝ }
 {
     let block = cases::block::read_records(records, 190);
     let then = block.then;
     answer_cases(records, block.count, answers, buffer);
-    cases::block::write_answers(answers, block.count * 38, then)
+    cases::block::write_answers(answers, block.count * 47, then)
 }
 
 // Answers each case with the record of the same number.
 fn answer_cases(records: &[u8], count: usize, answers: &mut [u8], buffer: &mut [u8])
     requires { ⌜ count * 190 ≤ length (now records) ⌝ }
-    requires { ⌜ count * 38 ≤ length (now answers) ⌝ }
+    requires { ⌜ count * 47 ≤ length (now answers) ⌝ }
     ensures { λ _. ⌜ length (now (answers .exit)) ≡ length (now (answers .entry)) ⌝ }
 {
     let mut k = 0;
     while k < count {
         let answer = answer_case(cases::record::nth(records, k, 190), buffer);
         let numbers = answer.numbers;
-        cases::answer::put_answer(answer.letter, answer.hexadecimal, &numbers, answers, k * 38);
+        cases::answer::put_answer(answer.letter, answer.hexadecimal, &numbers, answers, k * 47);
         k += 1;
     }
 }
@@ -108,16 +110,16 @@ fn answer_lent(case: &[u8], buffer: &mut [u8]) -> Answer
     }
     let lent = &mut buffer[..count];
     match case[0] {
-        b'D' => called(
+        b'D' => drawn(
             curve::draw_curve(number(case, 0), curve_of(case), lent),
             lent,
         ),
-        b'L' => called(
+        b'L' => listed(
             curve::list_curve(number(case, 0), curve_of(case), lent),
             lent,
         ),
         b'E' => ends::list_both(case, lent),
-        b'P' => called(
+        b'P' => drawn(
             patch::draw_patch(number(case, 0), patch_of(case), lent),
             lent,
         ),

@@ -35,8 +35,8 @@ curve-of-requires c κs = search needs
 draw-curve-requires : tie.Need-draw-curve-requires
 draw-curve-requires c κs = search needs
 
-called-requires : tie.Need-called-requires
-called-requires c κs = search needs
+drawn-requires : tie.Need-drawn-requires
+drawn-requires c κs = search needs
 
 number-requires-3 : tie.Need-number-requires-3
 number-requires-3 c κs = search needs
@@ -47,8 +47,8 @@ curve-of-requires-2 c κs = search needs
 list-curve-requires : tie.Need-list-curve-requires
 list-curve-requires c κs = search needs
 
-called-requires-2 : tie.Need-called-requires-2
-called-requires-2 c κs = search needs
+listed-requires : tie.Need-listed-requires
+listed-requires c κs = search needs
 
 list-both-requires : tie.Need-list-both-requires
 list-both-requires c κs = search needs
@@ -62,8 +62,8 @@ patch-of-requires c κs = search needs
 draw-patch-requires : tie.Need-draw-patch-requires
 draw-patch-requires c κs = search needs
 
-called-requires-3 : tie.Need-called-requires-3
-called-requires-3 c κs = search needs
+drawn-requires-2 : tie.Need-drawn-requires-2
+drawn-requires-2 c κs = search needs
 
 fill-requires : tie.Need-fill-requires
 fill-requires c κs = search needs
@@ -112,16 +112,16 @@ answer-lent-spec =
     number-requires-2
     curve-of-requires
     draw-curve-requires
-    called-requires
+    drawn-requires
     number-requires-3
     curve-of-requires-2
     list-curve-requires
-    called-requires-2
+    listed-requires
     list-both-requires
     number-requires-4
     patch-of-requires
     draw-patch-requires
-    called-requires-3
+    drawn-requires-2
     fill-requires
     same-length
     returns-2

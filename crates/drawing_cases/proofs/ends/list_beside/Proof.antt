@@ -35,8 +35,8 @@ list-curve-requires-2 c κs = search needs
 agree-requires : tie.Need-agree-requires
 agree-requires c κs = search needs
 
-called-requires : tie.Need-called-requires
-called-requires c κs = search needs
+listed-requires : tie.Need-listed-requires
+listed-requires c κs = search needs
 
 holding-requires : tie.Need-holding-requires
 holding-requires c κs = search needs
@@ -73,7 +73,7 @@ list-beside-spec =
     from-other-end-requires
     list-curve-requires-2
     agree-requires
-    called-requires
+    listed-requires
     holding-requires
     same-length
     same-length-2
