@@ -12,7 +12,7 @@ from collections import Counter
 from itertools import product
 
 import sheets
-from model import BUFFER_LENGTH, CURVE_LINES, draw_sheet, format_line, sheet_lines, sheet_printed, totals_printed
+from model import BUFFER_LENGTH, CURVE_LINES, format_line, sheet_lines, sheet_printed, totals_printed
 from sheets import CELL, CURVE_NUMBERS, LONGEST, SIDE, SIDE_NUMBERS, STROKE, faulty, with_field
 from stored import case_record
 
@@ -124,8 +124,7 @@ class Cases(sheets.Cases):
 
     def add(self, sheet, *expected, kind=None, reports=REPORTS):
         """A sheet, its answer, which begins as expected, and what is printed of it by each report."""
-        answer = draw_sheet(sheet, bytes(BUFFER_LENGTH))
-        assert answer[: len(expected)] == expected
+        answer = self.draw(sheet, bytes(BUFFER_LENGTH), expected)
         for report in reports:
             printed = (sheet_printed, totals_printed)[report](answer)
             heading = case_record("P", (report, len(sheet)), 2)

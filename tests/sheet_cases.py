@@ -1,4 +1,4 @@
-"""Writes the stored stroke sheets and their expected answers, by the separate model of document 01.
+"""Writes the stored stroke sheets and their expected answers, by the separate model of documents 01 and 02.
 
 `python3 tests/sheet_cases.py` writes crates/sheet_cases/stdin and stdout; with `--check` it writes nothing and exits with
 1 if they are not what it would write; with `--count` it prints how many sheets are of each kind.  The forms of both are
@@ -8,18 +8,20 @@ described in crates/sheet_cases/src.
 import random
 import sys
 from itertools import product
+from pathlib import Path
 
 import sheets
-from model import BUFFER_LENGTH, CURVE_LINES, SAMPLE_SHEET, draw_sheet, format_line, on_axis, sheet_printed
+from model import BUFFER_LENGTH, CURVE_LINES, SAMPLE_SHEET, draw_sheet, format_line, on_axis, sheet_lines, sheet_printed
 from sheets import (
     BAD_SIDES, CELL, CURVE_NUMBERS, FAULTS, FIELDS, LARGEST, LONGEST, SIDE, SIDE_NUMBERS, STROKE, faulty, with_field,
 )  # fmt: skip
 from stored import answer_record, case_record
 
-NUMBERS, ANSWERS = 5, 8  # in a case's heading, in an answer
+NUMBERS, ANSWERS = 5, 9  # in a case's heading, in an answer
 BUFFER = 65536  # of the program
 PRIMES = 99999989, 99999959
 PARTS = 0, 7, 1600, 0, 41, 999, 0, 1, 64, 1599  # 0: plane by plane
+FULLEST = Path(__file__).with_name("fullest.sheet").read_bytes()  # of side 40, the most cells that a search found
 
 WANTED = (
     *sheets.WANTED,
@@ -40,6 +42,9 @@ WANTED = (
         f"21, by a buffer of {lent} bytes, of {of} sheet"
         for lent, of in product((0, 63999, 64001), ("an accepted", "a refused"))
     ),
+    *("no new cell", "as many new cells as samples", "fewer new cells than samples"),
+    *("more new cells than the last line has samples", "a last line that adds nothing"),
+    *("a buffer full of marks", "fewer new cells in the buffer as it was"),
 )
 
 
@@ -52,33 +57,55 @@ def holding(held):
     return len(held) - held.count(0), *(number % prime for prime in PRIMES)
 
 
-def kinds(sheet, lent, answer):
-    """Every kind of which a stored sheet is an example."""
-    if lent == BUFFER_LENGTH:
+def sum_kinds(sheet, buffer, answer):
+    """What the sum of new cells of an accepted sheet is, beside the numbers that a program may take for it."""
+    cube = answer.buffer[: answer.side**3]
+    samples = [sheets.values(line, 2)[1] + 1 for line in sheet_lines(sheet)[1:]]
+    if answer.new == 0:
+        yield "no new cell"
+    elif answer.new == sum(samples):
+        yield "as many new cells as samples"
+    else:
+        yield "fewer new cells than samples"
+    if answer.new > max(samples[-1:], default=0):
+        yield "more new cells than the last line has samples"
+    if 0 not in buffer[: len(cube)]:
+        yield "a buffer full of marks"
+    if answer.new > sum(mark > 0 and held == 0 for mark, held in zip(cube, buffer)):
+        yield "fewer new cells in the buffer as it was"
+
+
+def kinds(sheet, buffer, answer):
+    """Every kind of which a stored sheet is an example, that is drawn into this buffer."""
+    if len(buffer) == BUFFER_LENGTH:
         yield from sheets.kinds(sheet, answer)
+        if answer.refusal is None:
+            yield from sum_kinds(sheet, buffer, answer)
     else:
         of = "an accepted" if draw_sheet(sheet, bytes(BUFFER_LENGTH)).refusal is None else "a refused"
-        yield f"21, by a buffer of {lent} bytes, of {of} sheet"
+        yield f"21, by a buffer of {len(buffer)} bytes, of {of} sheet"
 
 
 class Cases(sheets.Cases):
     """The cases of a sheet call."""
 
-    def add(self, sheet, *expected, kind=None, lent=BUFFER_LENGTH):
+    def add(self, sheet, *expected, kind=None, lent=BUFFER_LENGTH, fill=None):
         """A sheet, and its answer, which begins as expected.
 
         It is drawn into lent bytes that are filled before, byte i with first + step × i, modulo 256.
         """
         count = len(self.records)
-        first, step, part = 1 + count % 255, 7 * count % 256, PARTS[count % len(PARTS)]
-        filled = bytes((first + step * i) % 256 for i in range(256)) * (lent // 256 + 1)
-        answer = draw_sheet(sheet, filled[:lent])
-        assert answer[: len(expected)] == expected
-        said = ("A", (answer.side, answer.curves)) if answer.refusal is None else ("R", (answer.refusal, answer.line))
+        first, step = fill or (1 + count % 255, 7 * count % 256)
+        part = PARTS[count % len(PARTS)]
+        filled = (bytes((first + step * i) % 256 for i in range(256)) * (lent // 256 + 1))[:lent]
+        answer = self.draw(sheet, filled, expected)
+        said = "R", (answer.refusal, answer.line, 0)
+        if answer.refusal is None:
+            said = "A", (answer.side, answer.curves, answer.new)
         heading = case_record("S", (lent, first, step, part, len(sheet)), NUMBERS)
         numbers = (*said[1], *holding(answer.buffer), *holding(sheet_printed(answer)))
         record = heading + sheet.decode("latin-1"), answer_record(said[0], numbers, "d", ANSWERS)
-        self.keep(record, kinds(sheet, lent, answer), kind)
+        self.keep(record, kinds(sheet, filled, answer), kind)
         return answer
 
 
@@ -173,12 +200,56 @@ def lent_buffers(cases):
             cases.add(sheet, 21, 0, lent=lent)
 
 
+def row(mark, axis, start, side):
+    """A stroke through every cell of a row along an axis."""
+    end = [side - 1 if a == axis else c for a, c in enumerate(start)]
+    return format_line(mark, 3 * (side - 1), *start * 2, *end * 2)
+
+
+def sums(cases):
+    """Sums of new cells: strokes that share cells and that share none, lines that add nothing, and full buffers."""
+    along_x = [row(1 + k, 0, (0, k, 0), 10) for k in range(10)]
+    along_y = [row(11 + k, 1, (k, 0, 0), 10) for k in range(10)]
+    through = [row(9 + axis, axis, [0 if a == axis else 4 for a in range(3)], 10) for axis in range(3)]
+    dot = format_line(5, 512, *[4] * 12)  # in the cell that these three share
+    steps = format_line(3, 9, *on_axis(2, (0, 3, 6, 9)))  # a sample in each of its cells
+    idle = "a last line that adds nothing"
+    for strokes, new, kind in (
+        ([], 0, None),
+        ([steps], 10, None),
+        (along_x, 100, None),
+        ([*along_x, *along_x], 100, idle),
+        ([*along_x, *reversed(along_y)], 100, idle),
+        ([*along_x, along_y[3], steps], 109, None),
+        (through, 28, None),
+        ([*through, dot], 28, idle),
+        ([dot, *through], 28, None),
+        ([*through[:2], dot, through[2]], 28, None),
+        ([dot], 1, None),
+        ([dot] * CURVE_LINES, 1, idle),
+    ):
+        sheet = format_line(10) + b"".join(strokes)
+        cases.add(sheet, None, None, 10, len(strokes), new, kind=kind)
+    for fill in (0, 0), (7, 0), (255, 0), (0, 128), (128, 128), (1, 1):
+        cases.add(SAMPLE_SHEET, None, None, 4, 1, 4, fill=fill)
+        cases.add(format_line(10) + b"".join((*through, dot)), None, None, 10, 4, 28, fill=fill)
+        cases.add(SIDE + STROKE * 2 + faulty([15], 0), 15, 4, fill=fill)
+    starts = [(0, y, z) for y, z in product(range(14), repeat=2)]
+    cube = [row(1 + k, 0, start, 14) for k, start in enumerate(starts)]
+    planes = [row(1 + k, 0, (0, k % 40, k // 40), 40) for k in range(CURVE_LINES)]
+    for side, strokes, new in (14, cube + cube[:4], 14**3), (40, planes, 8000):
+        cases.add(format_line(side) + b"".join(strokes), None, None, side, CURVE_LINES, new)
+    for fill in (255, 0), (0, 0):
+        cases.add(FULLEST, None, None, 40, CURVE_LINES, 24669, fill=fill)
+
+
 def main():
     """Writes or checks both files, or prints the counts; the exit status."""
     cases = Cases()
     for part in sheets.samples, sheets.refusals, forms, numbers, sheets.overlaps, sheets.full_cubes, long_sheets, lent_buffers:
         part(cases)
     sheets.random_sheets(cases, random.Random(3), good=4, changed=6)
+    sums(cases)
     return cases.store("sheet_cases", WANTED)
 
 

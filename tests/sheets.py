@@ -7,8 +7,8 @@ from functools import lru_cache
 from itertools import combinations, product
 
 from model import (
-    CURVE_LINES, K1_TO_K11, SAMPLE_SHEET, curve, format_line, on_axis, read_field, sheet_lines, steps_too_long,
-    wrong_length,
+    CURVE_LINES, K1_TO_K11, SAMPLE_SHEET, curve, draw_sheet, format_line, marked_cells, on_axis, read_field, sheet_lines,
+    steps_too_long, wrong_length,
 )  # fmt: skip
 from stored import store
 
@@ -188,6 +188,13 @@ class Cases:
     def __init__(self):
         self.records = []
         self.found = Counter()
+
+    def draw(self, sheet, buffer, expected):
+        """A sheet call's answer, which begins as expected; if accepted, its new cells are as many as its marked ones."""
+        answer = draw_sheet(sheet, buffer)
+        assert answer[: len(expected)] == expected, (answer[:5], expected)
+        assert answer.refusal is not None or {*marked_cells(answer)} == {answer.new}, answer[:5]
+        return answer
 
     def keep(self, record, found, kind):
         """A case and its answer, the kinds of its sheet, and a kind by which the sheet was made, or None."""

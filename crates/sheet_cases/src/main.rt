@@ -8,14 +8,14 @@
 // call are the first of them, as many as the heading says, after byte i of them has become first + step × i, modulo 256.
 // The answers are
 //
-//     A side curves held printed               accepted: the side and the number of curve lines
-//     R number line held printed               refused
+//     A side curves new held printed           accepted: the side, the number of curve lines, the sum of new cells
+//     R number line 0 held printed             refused
 //
 // where held are three numbers for what the lent bytes hold afterwards, and printed three for the listing, or the refusal
 // line, of this answer: their digests (`cases::digest`), begun with 1. The listing is made plane by plane, or, if part is
 // not 0, in parts of so many places.
 //
-// A heading has 5 numbers, hence 46 bytes, and an answer 8, hence 74 bytes.
+// A heading has 5 numbers, hence 46 bytes, and an answer 9, hence 83 bytes.
 mod printed;
 
 ghost use mathlib.Core.Path.{_≡_};
@@ -99,9 +99,16 @@ fn answer_sheet(heading: &[u8], sheet: &[u8], text: &mut [u8], lent: &mut [u8]) 
     let held = extended(begun(1), lent);
     let printed = printed::printed(answer, lent, number(heading, 3), text);
     match answer {
-        Answer::Drawn(size) => write_answer(b'A', size.side, size.curves, held, printed),
+        Answer::Drawn(drawn) => write_answer(
+            b'A',
+            drawn.side,
+            drawn.curves,
+            drawn.new_cells,
+            held,
+            printed,
+        ),
         Answer::Refused(refusal) => {
-            write_answer(b'R', refusal.number, refusal.line, held, printed)
+            write_answer(b'R', refusal.number, refusal.line, 0, held, printed)
         }
     }
 }
@@ -119,10 +126,18 @@ fn draw_filled(heading: &[u8], sheet: &[u8], lent: &mut [u8]) -> Answer
 }
 
 // Writes an answer record, and says how it goes on.
-fn write_answer(letter: u8, a: u32, b: u32, held: Digest, printed: Digest) -> Progress {
+fn write_answer(
+    letter: u8,
+    a: u32,
+    b: u32,
+    new_cells: u32,
+    held: Digest,
+    printed: Digest,
+) -> Progress {
     let numbers = [
         a,
         b,
+        new_cells,
         eight(held.marked),
         eight(held.first),
         eight(held.second),
@@ -130,7 +145,7 @@ fn write_answer(letter: u8, a: u32, b: u32, held: Digest, printed: Digest) -> Pr
         eight(printed.first),
         eight(printed.second),
     ];
-    let mut record = [0u8; 74];
+    let mut record = [0u8; 83];
     cases::answer::put_answer(letter, false, &numbers, &mut record, 0);
-    cases::block::write_answers(&record, 74, Progress::More)
+    cases::block::write_answers(&record, 83, Progress::More)
 }

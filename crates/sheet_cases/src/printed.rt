@@ -14,7 +14,7 @@ pub(crate) fn printed(answer: Answer, lent: &[u8], part: u32, text: &mut [u8]) -
     requires { ⌜ length (now text) ≡ 33621 ⌝ }
 {
     match answer {
-        Answer::Drawn(size) => listed(size.side, lent, part as usize, text),
+        Answer::Drawn(drawn) => listed(drawn.side, lent, part as usize, text),
         Answer::Refused(refusal) => after(
             begun(1),
             sheet_text::refusal_line(refusal.number, refusal.line, text),
