@@ -14,8 +14,8 @@ from itertools import combinations, permutations, product
 
 from model import (
     CHESSBOARD, HALVES_IN_BOTH_ROWS, K1_TO_K11, WRONG_COUNTS, Answer, cells, cells_with_halves_to_even,
-    cells_with_halves_up, counted, curve, distances_line, draw, drawing_refusal, from_other_end, grid_of_points, list_curve,
-    neighbour_distances, new_places, on_axis, patch, place, samples,
+    cells_with_halves_up, counted, curve, distances_line, draw, drawing_refusal, from_other_end, grid_of_points,
+    list_curve, neighbour_distances, new_places, on_axis, patch, place, samples,
 )  # fmt: skip
 from stored import answer_record, case_record, malformed, store
 
@@ -478,7 +478,8 @@ def new_over_bytes(cases):
     """Into grids full of marks, with a mark at every second byte, and with all cells but one marked."""
     for held in MARK, 255:
         cases.fill(512, held)
-        draw_in_turn(cases, 8, (line((0, 0, 0), (7, 7, 7)), 0), (plane(2, 5), 0), (line((1, 2, 3), (1, 2, 3), 255, 512), 0))
+        one_cell = line((1, 2, 3), (1, 2, 3), 255, 512)
+        draw_in_turn(cases, 8, (line((0, 0, 0), (7, 7, 7)), 0), (plane(2, 5), 0), (one_cell, 0))
     for first, odd in (0, 0), (128, 1):
         cases.fill(512, first, 128)
         along_y = line((2, 0, 0), (2, 7, 0))
