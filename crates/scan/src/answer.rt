@@ -7,7 +7,7 @@ pub struct Drawn {
     pub new_cells: u32,
 }
 
-// What a drawing answers, or the refusal's number.
+// What a drawing answers: these two numbers, or the refusal's.
 pub enum DrawAnswer {
     Accepted(Drawn),
     Refused(u32),
