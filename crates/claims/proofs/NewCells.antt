@@ -1,7 +1,7 @@
 -- Document 02, A.10 holds. Different places are different cells, so the places that a drawing turns to marked, each once,
 -- are cells, each once; and a listing has a line for each marked cell, the totals a count of the others.
 use mathlib.Core.Path.{_≡_, sym, _∙_, ap, fun-ext}
-use mathlib.Core.List.{List, [], _∷_, map, List·Memᴰ, Memᴰ·map, Memᴰ·of-map, Memᴰ·cast}
+use mathlib.Core.List.{List, [], _∷_, map, Memᴰ·map, Memᴰ·of-map, Memᴰ·cast}
 use Prim.Native.Nat.{ℕ, _+_}
 use lib.ListN.{length, getD, length-map}
 use Rattle.bezier.specs.Exact.{Sample}

@@ -1,7 +1,7 @@
 -- What a sheet call says of the sheet and leaves in the buffer.
 use mathlib.Core.Path.{_≡_, refl, sym, _∙_, ap, subst}
 use mathlib.Core.Logic.{⊎-elim}
-use mathlib.Core.List.{List, [], _∷_, _++_}
+use mathlib.Core.List.{List, _++_}
 use Prim.Native.Nat.{ℕ, _≤_}
 use native.Mathlib.Nat.{mul-le-mul}
 use native.Mathlib.Omega.{arith}
@@ -13,7 +13,6 @@ use Rattle.decide.proofs.Truth.{decided, equal}
 use Rattle.cube.specs.Cube.{volume}
 use Rattle.sheet.specs.Sheet.{Stroke, Judged, good, bad, judge}
 use Rattle.sheet.specs.Printed.{cubeOf}
-use Rattle.sheet.proofs.Sheet.{bad-small}
 use Rattle.sheet.proofs.NewCells.{length-cube}
 use Rattle.sheet.specs.Call.{judgeCall, newCellsOf, Said, drew, refused, said, bufferAfter}
 use Rattle.sheet_cube.specs.declared.judge.Size.{Size}
@@ -90,21 +89,6 @@ module _ {input buffer bufferNow : List ℕ} {r : Answer} (d : DrawsSheet input 
             ap (take (volume S)) (d .leaves ∙ ap (λ j. bufferAfter j buffer) (g .good)) ∙
             take-at (cubeOf S (g .strokes)) (drop (volume S) buffer) (volume S) (length-cube S (g .strokes));
       }
-
-  -- Its side.
-  pub side-most : {S n new : ℕ} → saidOf r ≡ drew S n new → S ≤ 40
-  side-most e = let a = called-accepted e in good-sheet input (ap found (a .judged)) .side-most
-
-  -- The line of a refused one.
-  pub line-most : {n k : ℕ} → saidOf r ≡ refused n k → k ≤ 202
-  line-most {k = k} e =
-      let j = is-bad (judgeCall input buffer) (found-said (judgeCall input buffer) (sym (d .answer) ∙ e)) in
-      ⊎-elim
-      (λ t. bad-small input (sym (buffer-good input buffer (equal (length buffer) 64000 .0 t)) ∙ j) .1)
-      (λ f.
-      let z : k ≡ 0 = cc (buffer-bad input buffer (λ q. f (equal (length buffer) 64000 .1 q))) in
-      omega arith)
-      (decided (eqb (length buffer) 64000))
 
 -- A call answers and leaves what its contract says: with a buffer of another length,
 pub buffer-call : (input buffer : List ℕ) → ¬ (length buffer ≡ 64000) →
