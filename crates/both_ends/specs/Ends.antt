@@ -20,11 +20,12 @@ pub record Reversed (count : ℕ) (list back : List ℕ) : Type 0 where
   pub space : 3 * count ≤ length back
   pub cells : (i k : ℕ) → i + k + 1 ≡ count → SameCell list (3 * i) back (3 * k)
 
--- A curve from its other end: its four points in reverse order, with the same steps and mark.
+-- A curve from its other end: its four points in reverse order, with the same steps, mark and choice.
 pub record FromOtherEnd (c r : Curve) : Type 0 where
   pub points : Reversed 4 (c .points) (r .points)
   pub steps : r .steps ≡ c .steps
   pub mark : r .mark ≡ c .mark
+  pub choice : r .choice ≡ c .choice
 
 -- The two listings agree: the same refusal; or as many samples, and the same cells in reverse order.
 abbrev pub Agree : (list back : List ℕ) (one other : ListAnswer) → Type 0

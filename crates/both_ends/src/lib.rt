@@ -26,10 +26,12 @@ pub fn from_other_end(curve: Curve) -> Curve
         p[1],
         p[2],
     ];
+    let choice = curve.choice;
     Curve {
         points,
         steps: curve.steps,
         mark: curve.mark,
+        choice,
     }
 }
 

@@ -1,22 +1,26 @@
--- Demand 3 holds. Curve draws and patch draws supply what the list argument asks, since the cells of a drawable
--- object are within half a cell of its samples, inside the cube, and at places of their own.
+-- Demand 3 holds. Curve draws and patch draws, over or under, supply what the list argument asks, since the cells of a
+-- drawable object are within half a cell of its samples, inside the cube, and at places of their own.
 use mathlib.Core.Path.{_≡_, sym, _∙_, ap, subst}
 use mathlib.Core.Logic.{_⊎_, inl, inr, ⊎-elim}
 use mathlib.Core.List.{List, [], _∷_, _++_}
-use Prim.Native.Nat.{ℕ}
+use Prim.Native.Nat.{ℕ, _≤_}
+use native.Mathlib.Omega.{arith}
 use lib.Dec.{T}
 use lib.ListN.{length, getD}
 use Rattle.rounding.specs.Nearest.{withinHalf}
 use Rattle.cube.specs.Cube.{Cell, Inside, place, volume}
+use Rattle.bezier.specs.Exact.{Sample}
+use Rattle.drawing.specs.declared.Choice.the-variants.{Under}
 use Rattle.drawing.specs.Object.{Object, scaleOf, exact, cellOf}
 use Rattle.drawing.specs.Refusals.{Drawable}
-use Rattle.drawing.specs.Drawing.{drawn}
+use Rattle.drawing.specs.Drawing.{written, drawn}
 use Rattle.cube.proofs.Places.{place-below, place-injective, volume-injective}
 use Rattle.drawing.proofs.Accepted.{draw-accepted}
 use Rattle.drawing.proofs.Cells.{cell-within, cell-inside, cells-next-to}
+use Rattle.drawing.proofs.Marked.{over-writes, under-fills, under-keeps, written-marked}
 use Rattle.drawing.proofs.Drawn.{PlaceOfSample, length-drawn, drawn-holds, drawn-there}
 use Rattle.claims.specs.Demand3.{Call, sideOf, objectOf, run, Accepted, MarkOfNearObject}
-use Rattle.claims.specs.Demand3.{JustDrawn, Claim}
+use Rattle.claims.specs.Demand3.{MarkedFromUnder, JustDrawn, Claim}
 use Rattle.claims.proofs.Turns.{Supplies, MarkedBy, turns-length, turns-keep-or-mark, turns-last}
 
 -- A byte is a call's mark, and its place is that of the cell of one of the call's samples.
@@ -34,6 +38,14 @@ calls-supply = record {
   keeps-or-marks = λ call grid q h.
       ⊎-elim (λ kept. inl kept) (λ w. inr (w .0, record { its-mark = w .2; its-place = w .1 }))
       (drawn-holds (sideOf call) (objectOf call) grid q h);
+}
+
+-- What an under drawing leaves is marked.
+from-under : {m held byte : ℕ} → 1 ≤ m → byte ≡ written Under m held → MarkedFromUnder m held byte
+from-under {m} {held} h e = record {
+  is-marked = λ z. omega (arith, z, e, written-marked Under held h);
+  its-mark = λ z. e ∙ under-fills m z;
+  earlier-mark = λ n. e ∙ under-keeps m n;
 }
 
 module _ (S : ℕ) (start : List ℕ) (cube : length start ≡ volume S) where
@@ -76,21 +88,31 @@ module _ (S : ℕ) (start : List ℕ) (cube : length start ≡ volume S) where
           }
 
   each-object : (before : List Call) (call : Call) → Accepted (length start) call →
-      JustDrawn S (objectOf call) (run (before ++ call ∷ []) start)
+      JustDrawn S (objectOf call) (run before start) (run (before ++ call ∷ []) start)
   unfolding run
   each-object before call e =
       let o : Object = objectOf call in
       let d = drawable call e in
+      let grid : List ℕ = run before start in
       let last = turns-last calls-supply before call start in
-      let then : Accepted (length (run before start)) call =
+      let then : Accepted (length grid) call =
       subst (λ len. Accepted len call) (sym (turns-length calls-supply before start)) e in
+      let there : (is : List ℕ) → Sample (o .counts) is →
+      getD (run (before ++ call ∷ []) start) (place S (cellOf o is)) 0 ≡
+      written (o .choice) (o .mark) (getD grid (place S (cellOf o is)) 0) =
+      λ is b.
+      ap (λ g. getD g (place S (cellOf o is)) 0) last ∙
+      subst (λ side. getD (drawn (sideOf call) o grid) (place side (cellOf o is)) 0 ≡
+      written (o .choice) (o .mark) (getD grid (place side (cellOf o is)) 0))
+      (side-same call e) (drawn-there (sideOf call) o grid then b) in
       record {
         in-the-cube = λ b. cell-inside d b;
         within-half-a-cell = λ {sample = is} b. cell-within d is;
-        holding-its-mark = λ {sample = is} b.
-            ap (λ grid. getD grid (place S (cellOf o is)) 0) last ∙
-            subst (λ side. getD (drawn (sideOf call) o (run before start)) (place side (cellOf o is)) 0 ≡ o .mark)
-            (side-same call e) (drawn-there (sideOf call) o (run before start) then b);
+        over-holding-its-mark = λ c {sample = is} b.
+            there is b ∙ ap (λ k. written k (o .mark) (getD grid (place S (cellOf o is)) 0)) c ∙ over-writes (o .mark) _;
+        under-holding-a-mark = λ c {sample = is} b.
+            from-under (draw-accepted (sideOf call) o (length grid) .0 then .2)
+            (there is b ∙ ap (λ k. written k (o .mark) (getD grid (place S (cellOf o is)) 0)) c);
         by-at-most-one = λ f. cells-next-to d f;
       }
 

@@ -2,7 +2,7 @@
 -- its form for a stroke sheet. `Calls`: calls to the functions that draw are its calls. `Sheets`: an
 -- accepted sheet call is a list of its own. `Instances`: small computed cases, which show that demand 3 speaks of
 -- something. `Totals`: the totals of an accepted sheet add up. `Slits`: patches have no slits. `NewCells`: new cells
--- are different cells, and those of a sheet add up.
+-- are different cells, and those of a sheet add up. `Choices`: strokes that go over and strokes that go under.
 pub mod Known
 pub mod Turns
 pub mod Demand3
@@ -13,3 +13,4 @@ pub mod Sheets
 pub mod Totals
 pub mod Slits
 pub mod NewCells
+pub mod Choices

@@ -20,6 +20,6 @@ neighbours-next-to S o e n a = cells-next-to (check-accepted S o .0 e) n a
 pub claim : Claim
 claim = record {
   any-object = neighbours-next-to;
-  patch-along-t = λ S n m points mark e i j hi hj. neighbours-next-to S (patch n m points mark) e (first hi (index hj no-index));
-  patch-along-u = λ S n m points mark e i j hi hj. neighbours-next-to S (patch n m points mark) e (later hi (first hj no-index));
+  patch-along-t = λ S n m points mark choice e i j hi hj. neighbours-next-to S (patch n m points mark choice) e (first hi (index hj no-index));
+  patch-along-u = λ S n m points mark choice e i j hi hj. neighbours-next-to S (patch n m points mark choice) e (later hi (first hj no-index));
 }

@@ -11,10 +11,10 @@ use Rattle.claims.specs.Demand3.{Call, draw-curve, draw-patch}
 
 -- A call of `draw_curve`, and one of `draw_patch`.
 abbrev pub curveCall : (side : ℕ) → Curve → Call
-curveCall side c = draw-curve side (c .steps) (c .points) (c .mark)
+curveCall side c = draw-curve side (c .steps) (c .points) (c .mark) (c .choice)
 
 abbrev pub patchCall : (side : ℕ) → Patch → Call
-patchCall side p = draw-patch side (p .n) (p .m) (p .points) (p .mark)
+patchCall side p = draw-patch side (p .n) (p .m) (p .points) (p .mark) (p .choice)
 
 -- Calls of the two functions in turn, each with the grid as the last one left it, as their contracts have it: the list
 -- of calls, the grid at the start and the grid in the end.

@@ -1,4 +1,5 @@
--- Demand 3, with "The words of demand 3" of document 01: one claim about a whole list of calls that draw into one cube.
+-- Demand 3, with "The words of demand 3" of document 01 and document 02's A.11: one claim about a whole list of calls that
+-- draw into one cube, over or under.
 use mathlib.Core.Path.{_≡_}
 use mathlib.Core.Logic.{_⊎_}
 use mathlib.Core.List.{List, [], _∷_, _++_, List·Memᴰ}
@@ -10,22 +11,24 @@ use Rattle.decide.specs.Refusal.{accepted}
 use Rattle.rounding.specs.Nearest.{withinHalf, NextTo}
 use Rattle.neighbours.specs.Steps.{Neighbours}
 use Rattle.cube.specs.Cube.{Axis, Cell, Inside, place, volume}
+use Rattle.drawing.specs.declared.Choice.{Choice}
+use Rattle.drawing.specs.declared.Choice.the-variants.{Over, Under}
 use Rattle.drawing.specs.Object.{Object, curve, patch, scaleOf, exact, cellOf}
 use Rattle.drawing.specs.Refusals.{drawVerdict}
 use Rattle.drawing.specs.Drawing.{drawn, inTurn}
 
 -- The list holds curve draws and patch draws, each with any side and any record.
 pub data Call : Type 0 where
-  draw-curve : (side n : ℕ) (points : List ℕ) (mark : ℕ) → Call
-  draw-patch : (side n m : ℕ) (points : List ℕ) (mark : ℕ) → Call
+  draw-curve : (side n : ℕ) (points : List ℕ) (mark : ℕ) (choice : Choice) → Call
+  draw-patch : (side n m : ℕ) (points : List ℕ) (mark : ℕ) (choice : Choice) → Call
 
 abbrev pub sideOf : Call → ℕ
-sideOf (draw-curve side n points mark) = side
-sideOf (draw-patch side n m points mark) = side
+sideOf (draw-curve side n points mark choice) = side
+sideOf (draw-patch side n m points mark choice) = side
 
 abbrev pub objectOf : Call → Object
-objectOf (draw-curve side n points mark) = curve n points mark
-objectOf (draw-patch side n m points mark) = patch n m points mark
+objectOf (draw-curve side n points mark choice) = curve n points mark choice
+objectOf (draw-patch side n m points mark choice) = patch n m points mark choice
 
 -- The grid after a list of calls, refused ones included.
 unfoldable pub run : List Call → List ℕ → List ℕ
@@ -51,13 +54,24 @@ pub record MarkOfNearObject (gridLength : ℕ) (calls : List Call) (c : Cell) (b
   pub is-sample : Sample (objectOf call .counts) sample
   pub is-near : SampleNear (objectOf call) sample c
 
--- Just after an object is drawn into a cube of side S: every one of its exact samples has its cell in the cube,
--- within half a cell on every axis and holding its mark, and two cells that follow one another, those of neighbours
--- along whichever parameter (document 02, A.4), differ by at most one on every axis.
-pub record JustDrawn (S : ℕ) (o : Object) (grid : List ℕ) : Type 0 where
+-- A marked byte, in a cell that held another one before an object came to it from under: the object's mark if the cell was
+-- unmarked, and the earlier mark if it was marked.
+pub record MarkedFromUnder (mark held byte : ℕ) : Type 0 where
+  pub is-marked : ¬ (byte ≡ 0)
+  pub its-mark : held ≡ 0 → byte ≡ mark
+  pub earlier-mark : ¬ (held ≡ 0) → byte ≡ held
+
+-- Just after an object is drawn into a cube of side S, over or under: every one of its exact samples has its cell in the
+-- cube, within half a cell on every axis, and two cells that follow one another, those of neighbours along whichever
+-- parameter (document 02, A.4), differ by at most one on every axis. Its cell holds its mark, if the object went over. If it
+-- went under, its cell is marked, though the mark may be an earlier one: in place of "holding its mark", and only then.
+pub record JustDrawn (S : ℕ) (o : Object) (grid gridAfter : List ℕ) : Type 0 where
   pub in-the-cube : {sample : List ℕ} → Sample (o .counts) sample → Inside S (cellOf o sample)
   pub within-half-a-cell : {sample : List ℕ} → Sample (o .counts) sample → SampleNear o sample (cellOf o sample)
-  pub holding-its-mark : {sample : List ℕ} → Sample (o .counts) sample → getD grid (place S (cellOf o sample)) 0 ≡ o .mark
+  pub over-holding-its-mark : o .choice ≡ Over → {sample : List ℕ} → Sample (o .counts) sample →
+      getD gridAfter (place S (cellOf o sample)) 0 ≡ o .mark
+  pub under-holding-a-mark : o .choice ≡ Under → {sample : List ℕ} → Sample (o .counts) sample →
+      MarkedFromUnder (o .mark) (getD grid (place S (cellOf o sample)) 0) (getD gridAfter (place S (cellOf o sample)) 0)
   pub by-at-most-one : {sample next : List ℕ} → Neighbours (o .counts) sample next → (a : Axis) →
       NextTo (cellOf o sample a) (cellOf o next a)
 
@@ -69,7 +83,7 @@ pub record Demand3 (S : ℕ) (start : List ℕ) (calls : List Call) : Type 0 whe
       MarkOfNearObject (length start) calls c (getD (run calls start) (place S c) 0)
   -- Just after each accepted object of the list, wherever it stands in it.
   pub each-object : (before after : List Call) (call : Call) → calls ≡ before ++ call ∷ after →
-      Accepted (length start) call → JustDrawn S (objectOf call) (run (before ++ call ∷ []) start)
+      Accepted (length start) call → JustDrawn S (objectOf call) (run before start) (run (before ++ call ∷ []) start)
 
 -- Demand 3: for every list of calls and whatever bytes the cube held at the start.
 pub record Claim : Type 0 where

@@ -7,6 +7,7 @@ use lib.Dec.{eqb}
 use Rattle.decide.specs.Same.{sameBytes}
 use Rattle.decide.specs.Refusal.{Verdict, accepted, refused}
 use Rattle.cube.specs.Cube.{x-axis, volume}
+use Rattle.drawing.specs.declared.Choice.the-variants.{Over}
 use Rattle.drawing.specs.Object.{Object, curve, patch, scaleOf, exact, cellOf}
 use Rattle.drawing.specs.Refusals.{drawVerdict}
 use Rattle.drawing.specs.Drawing.{row, bytes}
@@ -82,8 +83,8 @@ does o n is (last-step top bottom) =
     eqb (exact o x-axis (n ∷ is)) (exact o x-axis ((n - 1) ∷ is) + top) && eqb (scaleOf o) bottom
 
 unfoldable pub holds : Known → Bool
-holds (curve-of n xs says) = does (curve n (alongX xs) 1) n [] says
-holds (patch-row n m xs j says) = does (patch n m (alongX xs) 1) n (j ∷ []) says
+holds (curve-of n xs says) = does (curve n (alongX xs) 1 Over) n [] says
+holds (patch-row n m xs j says) = does (patch n m (alongX xs) 1 Over) n (j ∷ []) says
 
 -- Every one of the list holds.
 unfoldable pub allHold : List Known → Bool

@@ -7,6 +7,7 @@ use Rattle.decide.specs.Refusal.{accepted}
 use Rattle.rounding.specs.Nearest.{NextTo}
 use Rattle.neighbours.specs.Steps.{Neighbours}
 use Rattle.cube.specs.Cube.{Axis}
+use Rattle.drawing.specs.declared.Choice.{Choice}
 use Rattle.drawing.specs.Object.{Object, patch, cellOf}
 use Rattle.drawing.specs.Refusals.{checkVerdict}
 
@@ -16,12 +17,12 @@ pub record Claim : Type 0 where
   pub any-object : (S : ℕ) (o : Object) → checkVerdict S o ≡ accepted →
       {sample next : List ℕ} → Neighbours (o .counts) sample next → (a : Axis) → NextTo (cellOf o sample a) (cellOf o next a)
   -- A patch: neighbours along t, in every row.
-  pub patch-along-t : (S n m : ℕ) (points : List ℕ) (mark : ℕ) →
-      let o : Object = patch n m points mark in
+  pub patch-along-t : (S n m : ℕ) (points : List ℕ) (mark : ℕ) (choice : Choice) →
+      let o : Object = patch n m points mark choice in
       checkVerdict S o ≡ accepted → (i j : ℕ) → i < n → j ≤ m →
       (a : Axis) → NextTo (cellOf o (i ∷ j ∷ []) a) (cellOf o (suc i ∷ j ∷ []) a)
   -- A patch: neighbours along u, at every index of t.
-  pub patch-along-u : (S n m : ℕ) (points : List ℕ) (mark : ℕ) →
-      let o : Object = patch n m points mark in
+  pub patch-along-u : (S n m : ℕ) (points : List ℕ) (mark : ℕ) (choice : Choice) →
+      let o : Object = patch n m points mark choice in
       checkVerdict S o ≡ accepted → (i j : ℕ) → i ≤ n → j < m →
       (a : Axis) → NextTo (cellOf o (i ∷ j ∷ []) a) (cellOf o (i ∷ suc j ∷ []) a)

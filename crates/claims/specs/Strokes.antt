@@ -6,6 +6,7 @@ use mathlib.Core.List.{List, [], _∷_, _++_, map}
 use Prim.Native.Nat.{ℕ}
 use lib.ListN.{getD, replicate}
 use Rattle.cube.specs.Cube.{Cell, Inside, place, volume}
+use Rattle.drawing.specs.declared.Choice.the-variants.{Over}
 use Rattle.sheet.specs.Sheet.{Stroke, objectOf}
 use Rattle.claims.specs.Demand3.{Call, draw-curve, run, Accepted, MarkOfNearObject, JustDrawn}
 
@@ -13,8 +14,9 @@ use Rattle.claims.specs.Demand3.{Call, draw-curve, run, Accepted, MarkOf
 abbrev pub unmarked : (S : ℕ) → List ℕ
 unmarked S = replicate (volume S) 0
 
+-- A stroke's call: sheets always mean over.
 abbrev pub callOf : (S : ℕ) → Stroke → Call
-callOf S s = draw-curve S (s .steps) (s .points) (s .mark)
+callOf S s = draw-curve S (s .steps) (s .points) (s .mark) Over
 
 -- The cube after the strokes.
 abbrev pub drawing : (S : ℕ) → List Stroke → List ℕ
@@ -27,4 +29,4 @@ pub record StrokesDrawn (S : ℕ) (strokes : List Stroke) : Type 0 where
       (getD (drawing S strokes) (place S c) 0 ≡ 0) ⊎
       MarkOfNearObject (volume S) (map (callOf S) strokes) c (getD (drawing S strokes) (place S c) 0)
   pub each-stroke : (before after : List Stroke) (s : Stroke) → strokes ≡ before ++ s ∷ after →
-      Accepted (volume S) (callOf S s) × JustDrawn S (objectOf s) (drawing S (before ++ s ∷ []))
+      Accepted (volume S) (callOf S s) × JustDrawn S (objectOf s) (drawing S before) (drawing S (before ++ s ∷ []))

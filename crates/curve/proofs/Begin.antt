@@ -78,12 +78,12 @@ module _ {S : ℕ} (c : Curve) (twelve : length (c .points) ≡ 12) (d : Drawabl
   -- What an accepted drawing leaves are the marks of the row.
   pub drawn-row : (grid : List ℕ) → drawVerdict S (length grid) (curveOf c) ≡ accepted →
       drawn S (curveOf c) grid ≡
-      marked (c .mark)
+      marked (c .choice) (c .mark)
       (map placeOf (walkers (c .steps) (pos (scaleOf (curveOf c))) (gridStrides S) (startWalker c (gridStrides S)))) grid
   unfolding drawn cells
   drawn-row grid e =
       rw (e, one-row (c .steps), map-map)
-      (ap (λ ps. marked (c .mark) ps grid) (sym (row-places grid-row (start-at c d (gridStrides S)))))
+      (ap (λ ps. marked (c .choice) (c .mark) ps grid) (sym (row-places grid-row (start-at c d (gridStrides S)))))
 
   -- What an accepted listing leaves are the cells of the row.
   pub listed-row : (list : List ℕ) → listVerdict S (length list) (curveOf c) ≡ accepted →

@@ -12,15 +12,17 @@ ghost use Rattle.drawing.specs.Refusals.{order, checkVerdict};
 ghost use Rattle.scan.specs.Answer.{Draws, Lists};
 ghost use Rattle.curve.specs.Curve.{curveOf};
 use decide::Verdict;
+use drawing::Choice;
 use scan::answer::DrawAnswer;
 use scan::answer::Drawn;
 use scan::answer::ListAnswer;
 
-// A curve record: x, y, z of points 0 to 3, the step count and the mark.
+// A curve record: x, y, z of points 0 to 3, the step count, the mark and the choice, over or under.
 pub struct Curve {
     pub points: [u8; 12],
     pub steps: u32,
     pub mark: u8,
+    pub choice: Choice,
 }
 
 // Whether the curve can be drawn in a cube of the given side. Refused: 11, 13, 14, 15.
@@ -44,7 +46,7 @@ pub fn list_curve(side: u32, curve: Curve, list: &mut [u8]) -> ListAnswer
     }
 }
 
-// Writes the mark in each sample's cell of the grid. Refused: 11, 21, 12, 13, 14, 15.
+// Writes the mark, over or under, in each sample's cell of the grid. Refused: 11, 21, 12, 13, 14, 15.
 pub fn draw_curve(side: u32, curve: Curve, grid: &mut [u8]) -> DrawAnswer
     ensures { λ r. ⌜ Draws side (curveOf curve) (now (grid .entry)) (now (grid .exit)) r ⌝ }
 {

@@ -46,7 +46,7 @@ fn start_walker(curve: Curve, h: Strides) -> Walker
     }
 }
 
-// Marks the cells of an accepted curve's samples. Answers how many of them were unmarked before.
+// Marks the cells of an accepted curve's samples, over or under. Answers how many of them were unmarked before.
 pub fn mark_samples(side: u32, curve: Curve, grid: &mut [u8]) -> u32
     requires { ⌜ drawVerdict side (length (now grid)) (curveOf curve) ≡ accepted ⌝ }
     ensures { λ r. ⌜ r + unmarkedCells (now (grid .exit)) ≡ unmarkedCells (now (grid .entry)) ⌝ }
@@ -55,7 +55,8 @@ pub fn mark_samples(side: u32, curve: Curve, grid: &mut [u8]) -> u32
     let h = scan::number::grid_strides(side);
     let start = start_walker(curve, h);
     let scale = scan::number::cubed(curve.steps);
-    scan::mark::mark_row(start, curve.steps, scale, h, curve.mark, grid)
+    let choice = curve.choice;
+    scan::mark::mark_row(start, curve.steps, scale, h, curve.mark, choice, grid)
 }
 
 // Lists the cells of an accepted curve's samples.

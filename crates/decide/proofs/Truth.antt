@@ -41,6 +41,11 @@ pub true-of : (b : Bool) → T b → b ≡ true
 true-of true t = refl
 true-of false t = absurd t
 
+-- Two tests, each true where the other is, are the same.
+pub same-test : (a b : Bool) → (T a → T b) → (T b → T a) → a ≡ b
+same-test true b f g = sym (true-of b (f tt))
+same-test false b f g = sym (false-of b g)
+
 -- The test is false exactly where it is not true.
 pub false-iff : (b : Bool) → (b ≡ false) ↔ (¬ T b)
 false-iff b = (λ e. subst (λ c. ¬ T c) (sym e) (λ t. t), false-of b)

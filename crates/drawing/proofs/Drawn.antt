@@ -1,7 +1,7 @@
--- One drawing in words: a refused one leaves the grid; an accepted one leaves its length, marks every sample's cell,
--- and leaves every other byte.
+-- One drawing in words: a refused one leaves the grid; an accepted one leaves its length, comes to every sample's cell, in
+-- whatever order, and leaves every other byte.
 use mathlib.Core.Path.{_≡_, refl, sym, _∙_, ap}
-use mathlib.Core.Logic.{_⊎_, inl, inr, ⊎-elim}
+use mathlib.Core.Logic.{_↔_, _⊎_, inl, inr, ⊎-elim}
 use mathlib.Core.List.{List, map, List·Memᴰ, Memᴰ·map, Memᴰ·of-map, Memᴰ·cast}
 use Prim.Native.Nat.{ℕ, _<_}
 use lib.ListN.{length, getD}
@@ -11,10 +11,10 @@ use Rattle.decide.proofs.Refusal.{by-verdict}
 use Rattle.cube.specs.Cube.{place}
 use Rattle.drawing.specs.Object.{Object, cellOf}
 use Rattle.drawing.specs.Refusals.{drawVerdict}
-use Rattle.drawing.specs.Drawing.{samples, marked, cells, drawn}
+use Rattle.drawing.specs.Drawing.{samples, written, marked, cells, drawn}
 use Rattle.cube.proofs.Places.{place-below}
 use Rattle.drawing.proofs.Samples.{sample-listed, listed-sample}
-use Rattle.drawing.proofs.Marked.{length-marked, marked-holds, marked-there}
+use Rattle.drawing.proofs.Marked.{held-or-mark, length-marked, marked-holds, marked-there, marked-same}
 use Rattle.drawing.proofs.Accepted.{draw-accepted}
 use Rattle.drawing.proofs.Cells.{cell-inside}
 
@@ -49,7 +49,7 @@ module _ (S : ℕ) (o : Object) (grid : List ℕ) where
 
   -- An accepted one leaves the marks.
   pub drawn-accepted : drawVerdict S (length grid) o ≡ accepted →
-      drawn S o grid ≡ marked (o .mark) (map (place S) (cells o)) grid
+      drawn S o grid ≡ marked (o .choice) (o .mark) (map (place S) (cells o)) grid
   unfolding drawn
   drawn-accepted e = rw e
 
@@ -57,7 +57,7 @@ module _ (S : ℕ) (o : Object) (grid : List ℕ) where
   pub length-drawn : length (drawn S o grid) ≡ length grid
   length-drawn =
       by-verdict (drawVerdict S (length grid) o) _
-      (λ e. rw (drawn-accepted e) (length-marked (o .mark) (map (place S) (cells o)) grid))
+      (λ e. rw (drawn-accepted e) (length-marked (o .choice) (o .mark) (map (place S) (cells o)) grid))
       (λ k e. ap length (drawn-refused e))
 
   -- Each byte holds what it held, or the drawing is accepted and the byte is the place of a sample's cell and holds
@@ -68,16 +68,26 @@ module _ (S : ℕ) (o : Object) (grid : List ℕ) where
   drawn-holds q h =
       by-verdict (drawVerdict S (length grid) o) _
       (λ e. rw (drawn-accepted e)
-      (⊎-elim (λ kept. inl kept) (λ w. inr (e, of-sample S o (w .0), w .1))
-      (marked-holds (o .mark) (map (place S) (cells o)) grid q h)))
+      (⊎-elim (λ kept. inl kept)
+      (λ w. ⊎-elim (λ same. inl (w .1 ∙ same)) (λ m. inr (e, of-sample S o (w .0), w .1 ∙ m))
+      (held-or-mark (o .choice) (o .mark) (getD grid q 0)))
+      (marked-holds (o .choice) (o .mark) (map (place S) (cells o)) grid q h)))
       (λ k e. inl (ap (λ l. getD l q 0) (drawn-refused e)))
 
-  -- After an accepted drawing every sample's cell holds the mark.
+  -- After an accepted drawing every sample's cell holds what the drawing leaves in a cell that it comes to.
   pub drawn-there : drawVerdict S (length grid) o ≡ accepted → {is : List ℕ} → Sample (o .counts) is →
-      getD (drawn S o grid) (place S (cellOf o is)) 0 ≡ o .mark
+      getD (drawn S o grid) (place S (cellOf o is)) 0 ≡ written (o .choice) (o .mark) (getD grid (place S (cellOf o is)) 0)
   drawn-there e {is} b =
       let w = draw-accepted S o (length grid) .0 e in
       rw (drawn-accepted e)
-      (marked-there (o .mark) grid
+      (marked-there (o .choice) (o .mark) grid
       (rw (w .1) (place-below S (cellOf o is) (cell-inside (w .0) b)))
       (place-listed S o (record { sample = is; is-sample = b; at = refl })))
+
+  -- Marks at the places of the samples' cells, in whatever order, leave what the drawing leaves.
+  pub drawn-in-any-order : drawVerdict S (length grid) o ≡ accepted → (ps : List ℕ) →
+      ((q : ℕ) → List·Memᴰ q ps ↔ PlaceOfSample S o q) → marked (o .choice) (o .mark) ps grid ≡ drawn S o grid
+  drawn-in-any-order e ps same =
+      marked-same (o .choice) (o .mark) ps (map (place S) (cells o)) grid
+      (λ q. (λ l. place-listed S o (same q .0 l), λ l. same q .1 (of-sample S o l))) ∙
+      sym (drawn-accepted e)

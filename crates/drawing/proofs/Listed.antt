@@ -12,6 +12,7 @@ use Rattle.decide.proofs.Some.{below-or-last}
 use Rattle.decide.specs.Refusal.{accepted, refused}
 use Rattle.decide.proofs.Refusal.{by-verdict}
 use Rattle.cube.specs.Cube.{Axis, x-axis, y-axis, z-axis, Cell}
+use Rattle.drawing.specs.declared.Choice.{Choice}
 use Rattle.drawing.specs.Object.{Object, curve, offset, cellOf}
 use Rattle.drawing.specs.Refusals.{listVerdict, sampleCount}
 use Rattle.drawing.specs.Drawing.{row, rows, samples, bytes, cells, listed}
@@ -105,13 +106,13 @@ unfolding samples rows
 curve-sample-at n i h =
     List·getD-append (row n []) [] [] i (rw (length-row n []) (omega arith)) ∙ row-at n [] [] i h
 
-module _ (S n : ℕ) (points : List ℕ) (mark : ℕ) (list : List ℕ) where
+module _ (S n : ℕ) (points : List ℕ) (mark : ℕ) (choice : Choice) (list : List ℕ) where
   -- An accepted listing of a curve has the three bytes of sample i's cell from byte 3 × i on.
-  pub listed-curve : listVerdict S (length list) (curve n points mark) ≡ accepted → (i : ℕ) → i ≤ n → (a : Axis) →
-      getD (listed S (curve n points mark) list) (3 * i + offset a) 0 ≡ cellOf (curve n points mark) (i ∷ []) a
+  pub listed-curve : listVerdict S (length list) (curve n points mark choice) ≡ accepted → (i : ℕ) → i ≤ n → (a : Axis) →
+      getD (listed S (curve n points mark choice) list) (3 * i + offset a) 0 ≡ cellOf (curve n points mark choice) (i ∷ []) a
   unfolding cells sampleCount
   listed-curve e i h a =
-      let o : Object = curve n points mark in
+      let o : Object = curve n points mark choice in
       let here : i < length (cells o) = rw length-cells (omega arith) in
       ap (λ l. getD l (3 * i + offset a) 0) (listed-accepted S o list e) ∙
       List·getD-append (bytes (cells o)) _ 0 (3 * i + offset a)

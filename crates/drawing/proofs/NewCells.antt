@@ -1,7 +1,7 @@
--- New cells. A mark on an unmarked cell leaves one unmarked cell less, and a mark on a marked one leaves as many. So a
--- drawing leaves at most as many as there were, and the difference is the number of different places that it marks and
--- that were unmarked.
-use mathlib.Core.Path.{_≡_, refl, sym, _∙_, ap}
+-- New cells. A drawing that comes to an unmarked cell leaves one unmarked cell less, and one that comes to a marked cell
+-- leaves as many, over or under. So a drawing leaves at most as many as there were, and the difference is the number of
+-- different places that it comes to and that were unmarked.
+use mathlib.Core.Path.{_≡_, refl, sym, _∙_, ap, ap₂}
 use mathlib.Core.Logic.{_↔_, ⊎-elim}
 use mathlib.Core.Bool.{Bool, true, false, cond}
 use mathlib.Core.List.{List, [], _∷_, map, List·Memᴰ, List·Memᴰ·head, List·Memᴰ·tail, List·Memᴰ·not-nil, List·Memᴰ·cases-cons}
@@ -9,18 +9,19 @@ use Prim.Native.Nat.{ℕ, zero, suc, _+_, _≤_, _<_}
 use native.Mathlib.Omega.{arith}
 use lib.Dec.{eqb}
 use lib.ListN.{length, getD, set, replicate, length-set}
-use lib.Seq.{getD-set-same, getD-set-other}
 use Rattle.decide.specs.Refusal.{accepted}
 use Rattle.decide.proofs.Refusal.{by-verdict}
-use Rattle.decide.proofs.Truth.{decided, true-of, false-of, equal}
+use Rattle.decide.proofs.Truth.{decided, true-of, false-of, same-test, equal}
 use Rattle.cube.specs.Cube.{place}
 use Rattle.cube.proofs.Places.{place-below}
+use Rattle.drawing.specs.declared.Choice.{Choice}
 use Rattle.drawing.specs.Object.{Object, cellOf}
 use Rattle.drawing.specs.Refusals.{drawVerdict}
-use Rattle.drawing.specs.Drawing.{marked, cells, drawn, inTurn}
+use Rattle.drawing.specs.Drawing.{written, marked, cells, drawn, inTurn}
 use Rattle.drawing.specs.NewCells.{unmarkedCells, newCells, newInTurn, Different}
 use Rattle.drawing.proofs.Accepted.{draw-accepted}
 use Rattle.drawing.proofs.Cells.{cell-inside}
+use Rattle.drawing.proofs.Marked.{markedAt, written-marked, at-place, elsewhere, length-marked, marked-holds, marked-there}
 use Rattle.drawing.proofs.Drawn.{PlaceOfSample, drawn-refused, drawn-accepted, of-sample, place-listed}
 
 -- What a byte adds to the unmarked cells is at most one.
@@ -60,35 +61,35 @@ pub new-back : (before after : List ℕ) → unmarkedCells after ≤ unmarkedCel
 unfolding newCells
 new-back before after h = omega (arith, h)
 
--- Marks at places of the grid.
-module _ (m : ℕ) (mark : 1 ≤ m) where
-  -- The places that are unmarked when the mark gets there.
+-- Marks at places of the grid, over or under.
+module _ (c : Choice) (m : ℕ) (mark : 1 ≤ m) where
+  -- The places that are unmarked when the drawing comes to them.
   unfoldable freshPlaces : (ps grid : List ℕ) → List ℕ
   freshPlaces [] grid = []
   freshPlaces (p ∷ ps) grid =
-      cond (eqb (getD grid p 0) 0) (p ∷ freshPlaces ps (set grid p m)) (freshPlaces ps (set grid p m))
+      cond (eqb (getD grid p 0) 0) (p ∷ freshPlaces ps (markedAt c m grid p)) (freshPlaces ps (markedAt c m grid p))
 
   -- Each place is a byte of the grid.
   abbrev InGrid : (ps grid : List ℕ) → Type 0
   InGrid ps grid = (q : ℕ) → List·Memᴰ q ps → q < length grid
 
   -- And of the grid with a mark more.
-  later : (p : ℕ) (ps grid : List ℕ) → InGrid (p ∷ ps) grid → InGrid ps (set grid p m)
+  later : (p : ℕ) (ps grid : List ℕ) → InGrid (p ∷ ps) grid → InGrid ps (markedAt c m grid p)
   later p ps grid h q l = rw length-set (h q (List·Memᴰ·tail l))
 
   -- They are as many as there are unmarked cells less afterwards.
   fresh-count : (ps grid : List ℕ) → InGrid ps grid →
-      length (freshPlaces ps grid) + unmarkedCells (marked m ps grid) ≡ unmarkedCells grid
+      length (freshPlaces ps grid) + unmarkedCells (marked c m ps grid) ≡ unmarkedCells grid
   unfolding freshPlaces marked
   fresh-count [] grid h = omega arith
   fresh-count (p ∷ ps) grid h =
-      let one = unmarked-set m mark grid p (h p (List·Memᴰ·head refl)) in
-      let rest = fresh-count ps (set grid p m) (later p ps grid h) in
+      let one = unmarked-set (written c m (getD grid p 0)) (written-marked c (getD grid p 0) mark) grid p (h p (List·Memᴰ·head refl)) in
+      let rest = fresh-count ps (markedAt c m grid p) (later p ps grid h) in
       by-test (eqb (getD grid p 0) 0) _ _ one rest
     where
       by-test : (b : Bool) (u v : ℕ) →
-          cond b 1 0 + u ≡ unmarkedCells grid → length (freshPlaces ps (set grid p m)) + v ≡ u →
-          length (cond b (p ∷ freshPlaces ps (set grid p m)) (freshPlaces ps (set grid p m))) + v ≡ unmarkedCells grid
+          cond b 1 0 + u ≡ unmarkedCells grid → length (freshPlaces ps (markedAt c m grid p)) + v ≡ u →
+          length (cond b (p ∷ freshPlaces ps (markedAt c m grid p)) (freshPlaces ps (markedAt c m grid p))) + v ≡ unmarkedCells grid
       by-test true u v one rest = omega (arith, one, rest)
       by-test false u v one rest = omega (arith, one, rest)
 
@@ -98,7 +99,7 @@ module _ (m : ℕ) (mark : 1 ≤ m) where
   unfolding freshPlaces
   fresh-are [] grid h q = (λ l. absurd (List·Memᴰ·not-nil l), λ w. absurd (List·Memᴰ·not-nil (w .0)))
   fresh-are (p ∷ ps) grid h q =
-      let rest = fresh-are ps (set grid p m) (later p ps grid h) q in
+      let rest = fresh-are ps (markedAt c m grid p) (later p ps grid h) q in
       let here : p < length grid = h p (List·Memᴰ·head refl) in
       ⊎-elim
       (λ t. rw (true-of (eqb (getD grid p 0) 0) t) (
@@ -108,43 +109,43 @@ module _ (m : ℕ) (mark : 1 ≤ m) where
             (List·Memᴰ·cases-cons l),
         λ w. ⊎-elim
             (λ s. List·Memᴰ·head (equal q p .0 s))
-            (λ f. List·Memᴰ·tail (rest .1 (elsewhere (λ e. f (equal q p .1 e)) (w .0) (w .1))))
+            (λ f. List·Memᴰ·tail (rest .1 (another (λ e. f (equal q p .1 e)) (w .0) (w .1))))
             (decided (eqb q p)),
       ))
       (λ f. rw (false-of (eqb (getD grid p 0) 0) f) (
         λ l. let w = rest .0 l in (List·Memᴰ·tail (w .0), before here (w .1)),
-        λ w. rest .1 (elsewhere (λ e. f (equal (getD grid p 0) 0 .1 (ap (λ k. getD grid k 0) (sym e) ∙ w .1))) (w .0) (w .1)),
+        λ w. rest .1 (another (λ e. f (equal (getD grid p 0) 0 .1 (ap (λ k. getD grid k 0) (sym e) ∙ w .1))) (w .0) (w .1)),
       ))
       (decided (eqb (getD grid p 0) 0))
     where
-      -- The mark is not 0, so where the grid with the mark is unmarked it was so before.
-      before : p < length grid → getD (set grid p m) q 0 ≡ 0 → getD grid q 0 ≡ 0
+      -- A cell that a drawing has come to is marked, so where the grid is unmarked then it was so before.
+      before : p < length grid → getD (markedAt c m grid p) q 0 ≡ 0 → getD grid q 0 ≡ 0
       before here e =
           ⊎-elim
-          (λ s. absurd (omega (arith, mark, e, ap (λ k. getD (set grid p m) k 0) (equal q p .0 s), getD-set-same grid p m 0 here)))
-          (λ f. sym (getD-set-other grid p q m 0 (λ k. f (equal q p .1 k))) ∙ e)
+          (λ s. let k = equal q p .0 s in
+          absurd (omega (arith, e, at-place c m grid p q (rw k here) k, written-marked c (getD grid q 0) mark)))
+          (λ f. sym (elsewhere c m grid p q (λ k. f (equal q p .1 k))) ∙ e)
           (decided (eqb q p))
 
       -- At another place the grid is as it was.
-      elsewhere : ¬ (q ≡ p) → List·Memᴰ q (p ∷ ps) → getD grid q 0 ≡ 0 → List·Memᴰ q ps × (getD (set grid p m) q 0 ≡ 0)
-      elsewhere n l e =
-          (⊎-elim (λ k. absurd (n k)) (λ k. k) (List·Memᴰ·cases-cons l), getD-set-other grid p q m 0 n ∙ e)
+      another : ¬ (q ≡ p) → List·Memᴰ q (p ∷ ps) → getD grid q 0 ≡ 0 → List·Memᴰ q ps × (getD (markedAt c m grid p) q 0 ≡ 0)
+      another n l e = (⊎-elim (λ k. absurd (n k)) (λ k. k) (List·Memᴰ·cases-cons l), elsewhere c m grid p q n ∙ e)
 
   -- No place is among them twice.
   fresh-different : (ps grid : List ℕ) → InGrid ps grid → Different (freshPlaces ps grid)
   unfolding freshPlaces
   fresh-different [] grid h = tt
   fresh-different (p ∷ ps) grid h =
-      by-test (eqb (getD grid p 0) 0) (fresh-different ps (set grid p m) (later p ps grid h))
+      by-test (eqb (getD grid p 0) 0) (fresh-different ps (markedAt c m grid p) (later p ps grid h))
       (λ l. omega (
         arith,
-        mark,
-        fresh-are ps (set grid p m) (later p ps grid h) p .0 l .1,
-        getD-set-same grid p m 0 (h p (List·Memᴰ·head refl)),
+        fresh-are ps (markedAt c m grid p) (later p ps grid h) p .0 l .1,
+        at-place c m grid p p (h p (List·Memᴰ·head refl)) refl,
+        written-marked c (getD grid p 0) mark,
       ))
     where
-      by-test : (b : Bool) → Different (freshPlaces ps (set grid p m)) → ¬ List·Memᴰ p (freshPlaces ps (set grid p m)) →
-          Different (cond b (p ∷ freshPlaces ps (set grid p m)) (freshPlaces ps (set grid p m)))
+      by-test : (b : Bool) → Different (freshPlaces ps (markedAt c m grid p)) → ¬ List·Memᴰ p (freshPlaces ps (markedAt c m grid p)) →
+          Different (cond b (p ∷ freshPlaces ps (markedAt c m grid p)) (freshPlaces ps (markedAt c m grid p)))
       by-test true d n = (n, d)
       by-test false d n = d
 
@@ -165,13 +166,13 @@ module _ (S : ℕ) (o : Object) (grid : List ℕ) where
       λ q l. let s = of-sample S o l in
       rw (s .at, w .1) (place-below S (cellOf o (s .sample)) (cell-inside (w .0) (s .is-sample))) in
       record {
-        places = freshPlaces (o .mark) (w .2) ps grid;
-        count = rw (drawn-accepted S o grid e) (fresh-count (o .mark) (w .2) ps grid inside);
-        are = λ q. let f = fresh-are (o .mark) (w .2) ps grid inside q in (
+        places = freshPlaces (o .choice) (o .mark) (w .2) ps grid;
+        count = rw (drawn-accepted S o grid e) (fresh-count (o .choice) (o .mark) (w .2) ps grid inside);
+        are = λ q. let f = fresh-are (o .choice) (o .mark) (w .2) ps grid inside q in (
           λ l. (of-sample S o (f .0 l .0), f .0 l .1),
           λ p. f .1 (place-listed S o (p .0), p .1),
         );
-        different = fresh-different (o .mark) (w .2) ps grid inside;
+        different = fresh-different (o .choice) (o .mark) (w .2) ps grid inside;
       }
 
   -- A drawing leaves at most as many unmarked cells as there were: an accepted one by the above, a refused one all.
@@ -180,6 +181,41 @@ module _ (S : ℕ) (o : Object) (grid : List ℕ) where
       by-verdict (drawVerdict S (length grid) o) _
       (λ e. omega (arith, new-places e .count))
       (λ k e. rw (drawn-refused S o grid e) (omega arith))
+
+-- Two grids of one length that are unmarked at the same places have as many unmarked cells.
+unmarked-alike : (g h : List ℕ) → length g ≡ length h →
+    ((q : ℕ) → q < length g → (getD g q 0 ≡ 0) ↔ (getD h q 0 ≡ 0)) → unmarkedCells g ≡ unmarkedCells h
+unfolding unmarkedCells
+unmarked-alike [] [] e same = refl
+unmarked-alike [] (b ∷ h) e same = absurd (omega (arith, e))
+unmarked-alike (a ∷ g) [] e same = absurd (omega (arith, e))
+unmarked-alike (a ∷ g) (b ∷ h) e same =
+    ap₂ (λ t k. cond t 1 0 + k)
+    (same-test (eqb a 0) (eqb b 0)
+    (λ t. equal b 0 .1 (same 0 (omega arith) .0 (equal a 0 .0 t)))
+    (λ t. equal a 0 .1 (same 0 (omega arith) .1 (equal b 0 .0 t))))
+    (unmarked-alike g h (omega (arith, e)) (λ q l. same (suc q) (omega (arith, l))))
+
+-- Over and under leave the same cells unmarked.
+module _ (m : ℕ) (mark : 1 ≤ m) (ps grid : List ℕ) where
+  left-unmarked : (c d : Choice) (q : ℕ) → q < length grid →
+      getD (marked c m ps grid) q 0 ≡ 0 → getD (marked d m ps grid) q 0 ≡ 0
+  left-unmarked c d q h e =
+      ⊎-elim
+      (λ kept. ⊎-elim
+      (λ kept′. kept′ ∙ sym kept ∙ e)
+      (λ w. absurd (not-left (marked-there c m grid h (w .0))))
+      (marked-holds d m ps grid q h))
+      (λ w. absurd (not-left (w .1)))
+      (marked-holds c m ps grid q h)
+    where
+      not-left : getD (marked c m ps grid) q 0 ≡ written c m (getD grid q 0) → ⊥
+      not-left w = omega (arith, e, w, written-marked c (getD grid q 0) mark)
+
+  pub unmarked-either-way : (c d : Choice) → unmarkedCells (marked c m ps grid) ≡ unmarkedCells (marked d m ps grid)
+  unmarked-either-way c d =
+      unmarked-alike (marked c m ps grid) (marked d m ps grid) (length-marked c m ps grid ∙ sym (length-marked d m ps grid))
+      (λ q l. let h = rw (length-marked c m ps grid) at l in (left-unmarked c d q h, left-unmarked d c q h))
 
 -- New cells of calls in turn: nothing is lost in their sum.
 pub turns-new : {C : Type 0} (draw : C → List ℕ → List ℕ) →

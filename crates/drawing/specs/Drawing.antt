@@ -1,10 +1,14 @@
--- Document 01, "Exact samples and the walk", its last paragraph: what grid and list hold after a call. A refused call
--- leaves both as they were.
+-- Document 01, "Exact samples and the walk", its last paragraph, with document 02's A.11: what grid and list hold after a
+-- call. A refused call leaves both as they were.
+use mathlib.Core.Bool.{cond}
 use mathlib.Core.List.{List, [], _∷_, _++_, map}
 use Prim.Native.Nat.{ℕ, zero, suc}
-use lib.ListN.{length, drop, set}
+use lib.Dec.{eqb}
+use lib.ListN.{length, getD, drop, set}
 use Rattle.decide.specs.Refusal.{leaves}
 use Rattle.cube.specs.Cube.{x-axis, y-axis, z-axis, Cell, place}
+use Rattle.drawing.specs.declared.Choice.{Choice}
+use Rattle.drawing.specs.declared.Choice.the-variants.{Over, Under}
 use Rattle.drawing.specs.Object.{Object, cellOf}
 use Rattle.drawing.specs.Refusals.{drawVerdict, listVerdict}
 
@@ -23,10 +27,16 @@ unfoldable pub samples : (counts : List ℕ) → List (List ℕ)
 samples [] = [] ∷ []
 samples (n ∷ ns) = rows n (samples ns)
 
--- The grid with the mark at each of the places.
-unfoldable pub marked : (mark : ℕ) (places : List ℕ) (grid : List ℕ) → List ℕ
-marked m [] grid = grid
-marked m (p ∷ ps) grid = marked m ps (set grid p m)
+-- What a cell holds once a drawing has come to it. Over: the mark. Under, which writes only cells that are unmarked at that
+-- moment: the mark if it held 0, and else what it held.
+unfoldable pub written : Choice → (mark held : ℕ) → ℕ
+written Over mark held = mark
+written Under mark held = cond (eqb held 0) mark held
+
+-- The grid after a drawing has come to each of the places in turn.
+unfoldable pub marked : Choice → (mark : ℕ) (places : List ℕ) (grid : List ℕ) → List ℕ
+marked c m [] grid = grid
+marked c m (p ∷ ps) grid = marked c m ps (set grid p (written c m (getD grid p 0)))
 
 -- The cells' bytes, x y z for each in turn.
 unfoldable pub bytes : List Cell → List ℕ
@@ -37,9 +47,10 @@ bytes (c ∷ cs) = c x-axis ∷ c y-axis ∷ c z-axis ∷ bytes cs
 unfoldable pub cells : Object → List Cell
 cells o = map (cellOf o) (samples (o .counts))
 
--- The grid after a drawing: an accepted one writes the mark in every sample's cell, nothing else.
+-- The grid after a drawing: an accepted one writes the mark, over or under, in every sample's cell, nothing else.
 unfoldable pub drawn : (S : ℕ) (o : Object) (grid : List ℕ) → List ℕ
-drawn S o grid = leaves (drawVerdict S (length grid) o) (marked (o .mark) (map (place S) (cells o)) grid) grid
+drawn S o grid =
+    leaves (drawVerdict S (length grid) o) (marked (o .choice) (o .mark) (map (place S) (cells o)) grid) grid
 
 -- Each call gets the grid as the last one left it.
 unfoldable pub inTurn : {C : Type 0} (draw : C → List ℕ → List ℕ) → List C → List ℕ → List ℕ

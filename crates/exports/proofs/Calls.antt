@@ -1,87 +1,128 @@
 -- What the calls' contracts say of signed answers.
 use mathlib.Core.Path.{_≡_, refl, sym, _∙_, ap}
-use mathlib.Core.List.{List}
-use Prim.Native.Nat.{ℕ}
+use mathlib.Core.List.{List, [], _∷_}
+use Prim.Native.Nat.{ℕ, _≤_, _<_}
+use native.Mathlib.Omega.{arith}
 use lib.IntN.{ℤ}
 use lib.ListN.{length}
 use borrow.Author.Tests.{ne-eqb, eq-eqb}
 use Rattle.decide.specs.Refusal as refusal
-use Rattle.decide.specs.Refusal.{Verdict, accepted, refused, Outcome, outcome, firstThat}
+use Rattle.decide.specs.Refusal.{Rule, _when_, Verdict, accepted, refused, Outcome, outcome, firstThat, orElse}
+use Rattle.decide.proofs.Truth.{true-of, false-of, less}
+use Rattle.decide.proofs.Refusal.{first-applies, first-passes}
 use Rattle.drawing.specs.Object.{Object}
 use Rattle.drawing.specs.Refusals.{checkVerdict, drawVerdict, sampleCount}
 use Rattle.drawing.specs.NewCells.{newCells}
 use Rattle.scan.specs.declared.answer.Drawn.{Drawn}
 use Rattle.scan.specs.declared.answer.DrawAnswer.{DrawAnswer}
 use Rattle.scan.specs.Answer.{drawAnswerOf, Draws}
-use Rattle.exports.specs.Signed.{minus, signedOf, signed, ofLength}
-use Rattle.exports.specs.Records.{Calls, ChecksBytes, samplesOf, newCellsAfter, DrawsBytes}
+use Rattle.exports.specs.Signed.{minus, signedOf, signed, otherLength, ownFirst}
+use Rattle.exports.specs.Records.{noChoice, recordOrder, drawOrder, Calls, ChecksBytes, samplesOf, newCellsAfter, DrawsBytes}
 
--- A record of its length leaves it to the call, and one of another length is refused.
-module _ (size : ℕ) (bytes : List ℕ) (v : Verdict) where
-  right-length : length bytes ≡ size → ofLength size bytes v ≡ v
-  unfolding firstThat
-  right-length e = rw (eq-eqb (length bytes) size e) refl
+-- A record has its length or not, and for a drawing the choice is one or not.
+module _ (size : ℕ) (bytes : List ℕ) where
+  wrong-length : (rules : List Rule) → (length bytes ≡ size → ⊥) →
+      firstThat (51 when otherLength size bytes ∷ rules) ≡ refused 51
+  wrong-length rules n = first-applies 51 (otherLength size bytes) rules (rw (ne-eqb (length bytes) size n))
 
-  wrong-length : (length bytes ≡ size → ⊥) → ofLength size bytes v ≡ refused 51
-  unfolding firstThat
-  wrong-length n = rw (ne-eqb (length bytes) size n) refl
+  module _ (e : length bytes ≡ size) where
+    past-length : (rules : List Rule) → firstThat (51 when otherLength size bytes ∷ rules) ≡ firstThat rules
+    past-length rules = first-passes 51 (otherLength size bytes) rules (rw (eq-eqb (length bytes) size e))
 
-module _ (size : ℕ) (bytes : List ℕ) (v : Verdict) (n : ℕ) {r : ℤ} where
-  wrong-answer : (length bytes ≡ size → ⊥) → r ≡ minus 51 → r ≡ signed (ofLength size bytes v) n
-  wrong-answer w e = e ∙ ap (λ u. signed u n) (sym (wrong-length size bytes v w))
+    right-length : firstThat (recordOrder size bytes) ≡ accepted
+    unfolding firstThat
+    right-length = past-length []
 
-  right-answer : length bytes ≡ size → r ≡ signed v n → r ≡ signed (ofLength size bytes v) n
-  right-answer h e = e ∙ ap (λ u. signed u n) (sym (right-length size bytes v h))
+    wrong-choice : {k : ℕ} → 1 < k → firstThat (drawOrder size bytes k) ≡ refused 55
+    wrong-choice {k} h =
+        past-length (55 when noChoice k ∷ []) ∙ first-applies 55 (noChoice k) [] (true-of (noChoice k) (less 1 k .1 h))
+
+    right-choice : {k : ℕ} → k ≤ 1 → firstThat (drawOrder size bytes k) ≡ accepted
+    unfolding firstThat
+    right-choice {k} h =
+        past-length (55 when noChoice k ∷ []) ∙
+        first-passes 55 (noChoice k) [] (false-of (noChoice k) (λ t. omega (arith, h, less 1 k .0 t)))
+
+-- Where a number of the interface's own applies the call is refused with it, and else it is left to itself.
+module _ (own : List Rule) (v : Verdict) (n : ℕ) {r : ℤ} where
+  own-answer : {k : ℕ} → firstThat own ≡ refused k → r ≡ minus k → r ≡ signed (ownFirst own v) n
+  own-answer w e = e ∙ ap (λ u. signed (orElse u v) n) (sym w)
+
+  call-answer : firstThat own ≡ accepted → r ≡ signed v n → r ≡ signed (ownFirst own v) n
+  call-answer p e = e ∙ ap (λ u. signed (orElse u v) n) (sym p)
+
+module _ (own : List Rule) (v : Verdict) (n : ℕ) (left before : List ℕ) where
+  own-call : {k : ℕ} {r : ℤ} → firstThat own ≡ refused k → r ≡ minus k → Calls own v n left before before r
+  own-call w e = record {
+    answer = own-answer own v n w e;
+    leaves = sym (ap (λ u. refusal.leaves u left before) w);
+  }
+
+  passed-call : {a : Outcome ℕ} {after : List ℕ} {r : ℤ} → firstThat own ≡ accepted → a ≡ outcome v n → after ≡ left →
+      r ≡ signedOf a → Calls own v n left before after r
+  passed-call h s l e = record {
+    answer = call-answer own v n h (e ∙ ap signedOf s);
+    leaves = l ∙ sym (ap (λ u. refusal.leaves u left before) h);
+  }
 
 -- A check, by the object that the record's bytes stand for.
 module _ (size S : ℕ) (o : Object) {r : ℤ} where
   pub wrong-check : (length (o .points) ≡ size → ⊥) → r ≡ minus 51 → ChecksBytes size S o r
-  wrong-check w e = wrong-answer size (o .points) (checkVerdict S o) 0 w e
+  wrong-check w e =
+      own-answer (recordOrder size (o .points)) (checkVerdict S o) 0 (wrong-length size (o .points) [] w) e
 
   pub right-check : (p : Object) {v : Verdict} → length (o .points) ≡ size → p ≡ o → v ≡ checkVerdict S p → r ≡ signed v 0 →
       ChecksBytes size S o r
   right-check p h same found e =
-      right-answer size (o .points) (checkVerdict S o) 0 h (e ∙ ap (λ u. signed u 0) (found ∙ ap (checkVerdict S) same))
+      call-answer (recordOrder size (o .points)) (checkVerdict S o) 0 (right-length size (o .points) h)
+      (e ∙ ap (λ u. signed u 0) (found ∙ ap (checkVerdict S) same))
 
--- A listing, or what a drawing has in common with it.
+-- A listing.
 module _ (size : ℕ) (bytes : List ℕ) (v : Verdict) (n : ℕ) (left before : List ℕ) where
-  pub wrong-record : {r : ℤ} → (length bytes ≡ size → ⊥) → r ≡ minus 51 → Calls size bytes v n left before before r
-  wrong-record w e = record {
-    answer = wrong-answer size bytes v n w e;
-    leaves = rw (ne-eqb (length bytes) size w) refl;
-  }
+  pub wrong-listing : {r : ℤ} → (length bytes ≡ size → ⊥) → r ≡ minus 51 →
+      Calls (recordOrder size bytes) v n left before before r
+  wrong-listing w e = own-call (recordOrder size bytes) v n left before (wrong-length size bytes [] w) e
 
-  pub right-record : {a : Outcome ℕ} {after : List ℕ} {r : ℤ} → length bytes ≡ size → a ≡ outcome v n → after ≡ left →
-      r ≡ signedOf a → Calls size bytes v n left before after r
-  right-record h s l e = record {
-    answer = right-answer size bytes v n h (e ∙ ap signedOf s);
-    leaves = l ∙ rw (eq-eqb (length bytes) size h) refl;
-  }
+  pub right-listing : {a : Outcome ℕ} {after : List ℕ} {r : ℤ} → length bytes ≡ size → a ≡ outcome v n → after ≡ left →
+      r ≡ signedOf a → Calls (recordOrder size bytes) v n left before after r
+  right-listing h s l e = passed-call (recordOrder size bytes) v n left before (right-length size bytes h) s l e
 
 -- A drawing.
-module _ (size S : ℕ) (o : Object) (grid : List ℕ) where
-  pub wrong-drawing : {new : ℕ} {r : ℤ} → (length (o .points) ≡ size → ⊥) → r ≡ minus 51 →
-      DrawsBytes size S o grid grid new new r
-  wrong-drawing {new} w e = record {
-    call = wrong-record size (o .points) _ _ _ _ w e;
+module _ (size S choice : ℕ) (o : Object) (grid : List ℕ) where
+  abbrev own : List Rule
+  own = drawOrder size (o .points) choice
+
+  refused-drawing : {k new : ℕ} {r : ℤ} → firstThat own ≡ refused k → r ≡ minus k →
+      DrawsBytes size S choice o grid grid new new r
+  refused-drawing {new = new} w e = record {
+    call = own-call own _ _ _ _ w e;
     new-cells =
-        sym (ap (λ v. refusal.leaves v (newCells grid grid) new) (wrong-length size (o .points) (drawVerdict S (length grid) o) w));
+        sym (ap (λ u. refusal.leaves (orElse u (drawVerdict S (length grid) o)) (newCells grid grid) new) w);
   }
 
-  -- By the object that the record's bytes stand for.
+  pub wrong-record : {new : ℕ} {r : ℤ} → (length (o .points) ≡ size → ⊥) → r ≡ minus 51 →
+      DrawsBytes size S choice o grid grid new new r
+  wrong-record w e = refused-drawing (wrong-length size (o .points) (55 when noChoice choice ∷ []) w) e
+
+  pub wrong-number : {new : ℕ} {r : ℤ} → length (o .points) ≡ size → 1 < choice → r ≡ minus 55 →
+      DrawsBytes size S choice o grid grid new new r
+  wrong-number h w e = refused-drawing (wrong-choice size (o .points) h w) e
+
+  -- By the object that the record's bytes and the choice's number stand for.
   pub right-drawing : (p : Object) {after : List ℕ} {a : DrawAnswer} {new newNow : ℕ} {r : ℤ} →
-      length (o .points) ≡ size → p ≡ o → Draws S p grid after a → r ≡ signedOf (samplesOf (drawAnswerOf a)) →
-      newNow ≡ newCellsAfter (drawAnswerOf a) new → DrawsBytes size S o grid after new newNow r
-  right-drawing p {after} {new = new} h same d e k =
+      length (o .points) ≡ size → choice ≤ 1 → p ≡ o → Draws S p grid after a →
+      r ≡ signedOf (samplesOf (drawAnswerOf a)) → newNow ≡ newCellsAfter (drawAnswerOf a) new →
+      DrawsBytes size S choice o grid after new newNow r
+  right-drawing p {after} {new = new} h k same d e q =
       let v : Verdict = drawVerdict S (length grid) o in
       let counts : Drawn = record { samples = sampleCount (o .counts); «new_cells» = newCells grid after } in
       let d′ = rw same at d in
+      let passed = right-choice size (o .points) h k in
       record {
-        call =
-            right-record size (o .points) v _ _ _ h (ap samplesOf (d′ .answer) ∙ samples-outcome v counts) (d′ .leaves) e;
+        call = passed-call own v _ _ _ passed (ap samplesOf (d′ .answer) ∙ samples-outcome v counts) (d′ .leaves) e;
         new-cells =
-            k ∙ ap (λ a. newCellsAfter a new) (d′ .answer) ∙ new-outcome v counts new ∙
-            ap (λ u. refusal.leaves u (newCells grid after) new) (sym (right-length size (o .points) v h));
+            q ∙ ap (λ a. newCellsAfter a new) (d′ .answer) ∙ new-outcome v counts new ∙
+            ap (λ u. refusal.leaves (orElse u v) (newCells grid after) new) (sym passed);
       }
     where
       samples-outcome : (v : Verdict) (d : Drawn) → samplesOf (outcome v d) ≡ outcome v (d .samples)

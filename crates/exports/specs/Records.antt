@@ -1,27 +1,52 @@
--- Calls with a record that C passes as bytes: 51 where it has another length, and else the call itself.
+-- Calls with a record that C passes as bytes, and with a choice that it passes as a number: 51 and 55 where they are none,
+-- and else the call itself.
 use mathlib.Core.Path.{_≡_}
-use mathlib.Core.Bool.{cond}
-use mathlib.Core.List.{List}
+use mathlib.Core.Bool.{Bool, cond}
+use mathlib.Core.List.{List, [], _∷_}
 use Prim.Native.Nat.{ℕ}
+use lib.Dec.{ltb, eqb}
 use lib.IntN.{ℤ}
 use lib.ListN.{length}
 use Rattle.decide.specs.Refusal as refusal
-use Rattle.decide.specs.Refusal.{Verdict, Outcome, gives, refuses}
+use Rattle.decide.specs.Refusal.{Rule, _when_, Verdict, Outcome, gives, refuses, firstThat}
+use Rattle.drawing.specs.declared.Choice.{Choice}
+use Rattle.drawing.specs.declared.Choice.the-variants.{Over, Under}
 use Rattle.drawing.specs.Object.{Object}
 use Rattle.drawing.specs.Refusals.{checkVerdict, drawVerdict, listVerdict, sampleCount}
 use Rattle.drawing.specs.Drawing.{drawn, listed}
 use Rattle.drawing.specs.NewCells.{newCells}
 use Rattle.scan.specs.declared.answer.Drawn.{Drawn}
-use Rattle.exports.specs.Signed.{signed, otherLength, ofLength}
+use Rattle.exports.specs.Signed.{signed, otherLength, ownFirst}
 
--- The signed answer, and what is lent: what it held if the record has another length, and else what the call leaves.
-pub record Calls (size : ℕ) (bytes : List ℕ) (v : Verdict) (count : ℕ) (left before after : List ℕ) (r : ℤ) : Type 0 where
-  pub answer : r ≡ signed (ofLength size bytes v) count
-  pub leaves : after ≡ cond (otherLength size bytes) before left
+-- 0 is over, and any other number under: 1, since 55 refuses the rest.
+abbrev pub choiceOf : (number : ℕ) → Choice
+choiceOf k = cond (eqb k 0) Over Under
+
+-- A choice that does not exist.
+abbrev pub noChoice : (number : ℕ) → Bool
+noChoice k = ltb 1 k
+
+-- A record of another length, and for a drawing also a choice that does not exist.
+abbrev pub recordOrder : (size : ℕ) (bytes : List ℕ) → List Rule
+recordOrder size bytes =
+    51 when otherLength size bytes ∷
+    []
+
+abbrev pub drawOrder : (size : ℕ) (bytes : List ℕ) (choice : ℕ) → List Rule
+drawOrder size bytes choice =
+    51 when otherLength size bytes ∷
+    55 when noChoice choice ∷
+    []
+
+-- The signed answer, and what is lent: what it held if a number of the interface's own applies, and else what the call
+-- leaves.
+pub record Calls (own : List Rule) (v : Verdict) (count : ℕ) (left before after : List ℕ) (r : ℤ) : Type 0 where
+  pub answer : r ≡ signed (ownFirst own v) count
+  pub leaves : after ≡ refusal.leaves (firstThat own) left before
 
 -- A check: 0, or minus the number.
 abbrev pub ChecksBytes : (size S : ℕ) (o : Object) (r : ℤ) → Type 0
-ChecksBytes size S o r = r ≡ signed (ofLength size (o .points) (checkVerdict S o)) 0
+ChecksBytes size S o r = r ≡ signed (ownFirst (recordOrder size (o .points)) (checkVerdict S o)) 0
 
 -- Of what a drawing answers, the number of samples, and what stands for its new cells afterwards: their number, or where it
 -- is refused what was there.
@@ -33,12 +58,15 @@ abbrev pub newCellsAfter : Outcome Drawn → (before : ℕ) → ℕ
 newCellsAfter (gives d) before = d .«new_cells»
 newCellsAfter (refuses k) before = before
 
--- A drawing: the number of samples, or minus the number; the grid; and the number of new cells.
-pub record DrawsBytes (size S : ℕ) (o : Object) (grid gridNow : List ℕ) (new newNow : ℕ) (r : ℤ) : Type 0 where
-  pub call : Calls size (o .points) (drawVerdict S (length grid) o) (sampleCount (o .counts)) (drawn S o grid) grid gridNow r
-  pub new-cells : newNow ≡ refusal.leaves (ofLength size (o .points) (drawVerdict S (length grid) o)) (newCells grid gridNow) new
+-- A drawing, with the number of its choice: the number of samples, or minus the number; the grid; and the number of new
+-- cells.
+pub record DrawsBytes (size S choice : ℕ) (o : Object) (grid gridNow : List ℕ) (new newNow : ℕ) (r : ℤ) : Type 0 where
+  pub call : Calls (drawOrder size (o .points) choice) (drawVerdict S (length grid) o) (sampleCount (o .counts)) (drawn S o grid)
+      grid gridNow r
+  pub new-cells : newNow ≡
+      refusal.leaves (ownFirst (drawOrder size (o .points) choice) (drawVerdict S (length grid) o)) (newCells grid gridNow) new
 
 -- A listing: the number of samples, or minus the number; and the list.
 abbrev pub ListsBytes : (size S : ℕ) (o : Object) (list listNow : List ℕ) (r : ℤ) → Type 0
 ListsBytes size S o list listNow r =
-    Calls size (o .points) (listVerdict S (length list) o) (sampleCount (o .counts)) (listed S o list) list listNow r
+    Calls (recordOrder size (o .points)) (listVerdict S (length list) o) (sampleCount (o .counts)) (listed S o list) list listNow r

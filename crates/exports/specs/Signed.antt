@@ -1,11 +1,11 @@
 -- What a C caller is answered: one signed number, a count or minus the refusal's number.
 use mathlib.Core.Bool.{Bool, not}
-use mathlib.Core.List.{List, [], _∷_}
+use mathlib.Core.List.{List}
 use Prim.Native.Nat.{ℕ}
 use lib.Dec.{eqb}
 use lib.IntN.{ℤ, pos, _-ℤ_}
 use lib.ListN.{length}
-use Rattle.decide.specs.Refusal.{Verdict, Outcome, gives, refuses, outcome, _when_, firstThat, orElse}
+use Rattle.decide.specs.Refusal.{Rule, Verdict, Outcome, gives, refuses, outcome, firstThat, orElse}
 
 -- Minus the number.
 abbrev pub minus : (number : ℕ) → ℤ
@@ -24,6 +24,6 @@ signed v n = signedOf (outcome v n)
 abbrev pub otherLength : (size : ℕ) (bytes : List ℕ) → Bool
 otherLength size bytes = not (eqb (length bytes) size)
 
--- 51, before all else: a record of another length.
-abbrev pub ofLength : (size : ℕ) (bytes : List ℕ) → Verdict → Verdict
-ofLength size r v = orElse (firstThat (51 when otherLength size r ∷ [])) v
+-- The numbers of this interface alone come before the call's.
+abbrev pub ownFirst : (own : List Rule) → Verdict → Verdict
+ownFirst own v = orElse (firstThat own) v

@@ -1,20 +1,23 @@
 // Curves.
 ghost use mathlib.Core.Path.{_≡_};
 ghost use lib.ListN.{length};
+ghost use Rattle.drawing.specs.declared.Choice.the-variants.{Over};
 ghost use Rattle.drawing.specs.Object.{curve};
 ghost use Rattle.curve.specs.Curve.{curveOf};
-ghost use Rattle.exports.specs.Records.{ChecksBytes, ListsBytes, DrawsBytes};
+ghost use Rattle.exports.specs.Records.{choiceOf, ChecksBytes, ListsBytes, DrawsBytes};
+use crate::signed::choice_of;
 use crate::signed::copy;
 use crate::signed::of_drawing;
 use crate::signed::of_listing;
 use crate::signed::of_verdict;
 use crate::signed::refused;
 use curve::Curve;
+use drawing::Choice;
 
 // The record of twelve bytes.
-fn curve_of(points: &[u8], steps: u32, mark: u8) -> Curve
+fn curve_of(points: &[u8], steps: u32, mark: u8, choice: Choice) -> Curve
     requires { ⌜ length (now points) ≡ 12 ⌝ }
-    ensures { λ r. ⌜ curveOf r ≡ curve steps (now (points .entry)) mark ⌝ }
+    ensures { λ r. ⌜ curveOf r ≡ curve steps (now (points .entry)) mark choice ⌝ }
 {
     let mut twelve = [0u8; 12];
     copy(points, &mut twelve);
@@ -22,27 +25,28 @@ fn curve_of(points: &[u8], steps: u32, mark: u8) -> Curve
         points: twelve,
         steps,
         mark,
+        choice,
     }
 }
 
 #[no_mangle]
 pub extern "C" fn gidzkhalu_check_curve(side: u32, points: &[u8], steps: u32) -> i64
-    ensures { λ r. ⌜ ChecksBytes 12 side (curve steps (now (points .entry)) 0) r ⌝ }
+    ensures { λ r. ⌜ ChecksBytes 12 side (curve steps (now (points .entry)) 0 Over) r ⌝ }
 {
     if points.len() != 12 {
         return refused(51);
     }
-    of_verdict(curve::check_curve(side, curve_of(points, steps, 0)))
+    of_verdict(curve::check_curve(side, curve_of(points, steps, 0, Choice::Over)))
 }
 
 #[no_mangle]
 pub extern "C" fn gidzkhalu_list_curve(side: u32, points: &[u8], steps: u32, list: &mut [u8]) -> i64
-    ensures { λ r. ⌜ ListsBytes 12 side (curve steps (now (points .entry)) 0) (now (list .entry)) (now (list .exit)) r ⌝ }
+    ensures { λ r. ⌜ ListsBytes 12 side (curve steps (now (points .entry)) 0 Over) (now (list .entry)) (now (list .exit)) r ⌝ }
 {
     if points.len() != 12 {
         return refused(51);
     }
-    of_listing(curve::list_curve(side, curve_of(points, steps, 0), list))
+    of_listing(curve::list_curve(side, curve_of(points, steps, 0, Choice::Over), list))
 }
 
 #[no_mangle]
@@ -51,17 +55,21 @@ pub extern "C" fn gidzkhalu_draw_curve(
     points: &[u8],
     steps: u32,
     mark: u8,
+    choice: u32,
     grid: &mut [u8],
     new_cells: &mut u32,
 ) -> i64
-    ensures { λ r. ⌜ DrawsBytes 12 side (curve steps (now (points .entry)) mark) (now (grid .entry)) (now (grid .exit))
-        (now («new_cells» .entry)) (now («new_cells» .exit)) r ⌝ }
+    ensures { λ r. ⌜ DrawsBytes 12 side choice (curve steps (now (points .entry)) mark (choiceOf choice)) (now (grid .entry))
+        (now (grid .exit)) (now («new_cells» .entry)) (now («new_cells» .exit)) r ⌝ }
 {
     if points.len() != 12 {
         return refused(51);
     }
+    if choice > 1 {
+        return refused(55);
+    }
     of_drawing(
-        curve::draw_curve(side, curve_of(points, steps, mark), grid),
+        curve::draw_curve(side, curve_of(points, steps, mark, choice_of(choice)), grid),
         new_cells,
     )
 }

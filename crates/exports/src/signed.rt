@@ -7,8 +7,9 @@ ghost use Rattle.integers.specs.Magnitude.{Within};
 ghost use Rattle.decide.specs.Verdict.{verdictOf};
 ghost use Rattle.scan.specs.Answer.{drawAnswerOf, listAnswerOf};
 ghost use Rattle.exports.specs.Signed.{minus, signed, signedOf};
-ghost use Rattle.exports.specs.Records.{samplesOf, newCellsAfter};
+ghost use Rattle.exports.specs.Records.{choiceOf, samplesOf, newCellsAfter};
 use decide::Verdict;
+use drawing::Choice;
 use scan::answer::DrawAnswer;
 use scan::answer::ListAnswer;
 
@@ -57,6 +58,16 @@ pub(crate) fn of_drawing(answer: DrawAnswer, new_cells: &mut u32) -> i64
             accepted(drawn.samples)
         }
         DrawAnswer::Refused(number) => refused(number),
+    }
+}
+
+// The choice of a number: 0 is over, any other under.
+pub(crate) fn choice_of(number: u32) -> Choice
+    ensures { λ r. ⌜ r ≡ choiceOf number ⌝ }
+{
+    match number {
+        0 => Choice::Over,
+        _ => Choice::Under,
     }
 }
 

@@ -207,9 +207,9 @@ module _ (S : ℕ) (p : Patch) where
 
   -- What an accepted drawing leaves are the marks of all rows.
   pub drawn-rows : (grid : List ℕ) → drawVerdict S (length grid) (patchOf p) ≡ accepted →
-      drawn S (patchOf p) grid ≡ marked (p .mark) (places S p (p .m)) grid
+      drawn S (patchOf p) grid ≡ marked (p .choice) (p .mark) (places S p (p .m)) grid
   unfolding drawn cells samples
-  drawn-rows grid e = rw (e, map-map) (ap (λ l. marked (p .mark) (map (λ s. place S (cellOf (patchOf p) s)) (rows (p .n) l)) grid) (one-row (p .m)))
+  drawn-rows grid e = rw (e, map-map) (ap (λ l. marked (p .choice) (p .mark) (map (λ s. place S (cellOf (patchOf p) s)) (rows (p .n) l)) grid) (one-row (p .m)))
 
 -- Row 0, with the strides as the code holds them.
 pub lines-start : {S : ℕ} (p : Patch) → Drawable S (patchOf p) → {h : Strides} {lines : Lines} →
@@ -229,6 +229,6 @@ module _ {S : ℕ} (p : Patch) (l : InLimits p) (d : Drawable S (patchOf p)) {N 
     pub room-for-row : {len : ℕ} → len ≡ S * S * S → OnGrid (p .n) N h w len
     room-for-row v = rw (v, q, e, f) (row-in-grid p l d o hj)
 
-    pub row-marks : (grid : List ℕ) {grid′ : List ℕ} → grid′ ≡ marked (p .mark) (map placeOf (walkers (p .n) N h w)) grid →
-        grid′ ≡ marked (p .mark) (row-at S p j) grid
+    pub row-marks : (grid : List ℕ) {grid′ : List ℕ} → grid′ ≡ marked (p .choice) (p .mark) (map placeOf (walkers (p .n) N h w)) grid →
+        grid′ ≡ marked (p .choice) (p .mark) (row-at S p j) grid
     row-marks grid r = rw (q, e, f, places-of-row p l d o hj) at r

@@ -13,15 +13,18 @@ ghost use Rattle.drawing.specs.Refusals.{countOut, order, checkVerdict};
 ghost use Rattle.scan.specs.Answer.{Draws};
 ghost use Rattle.patch.specs.Patch.{patchOf};
 use decide::Verdict;
+use drawing::Choice;
 use scan::answer::DrawAnswer;
 use scan::answer::Drawn;
 
-// A patch record: x, y, z of points 0 to 15, the step counts n along t and m along u, and the mark.
+// A patch record: x, y, z of points 0 to 15, the step counts n along t and m along u, the mark and the choice, over or
+// under.
 pub struct Patch {
     pub points: [u8; 48],
     pub n: u32,
     pub m: u32,
     pub mark: u8,
+    pub choice: Choice,
 }
 
 // Whether the patch can be drawn in a cube of the given side. Refused: 11, 13, 14, 15.
@@ -31,7 +34,7 @@ pub fn check_patch(side: u32, patch: Patch) -> Verdict
     verdict(side, patch, false, false)
 }
 
-// Writes the mark in each sample's cell of the grid. Refused: 11, 21, 12, 13, 14, 15.
+// Writes the mark, over or under, in each sample's cell of the grid. Refused: 11, 21, 12, 13, 14, 15.
 pub fn draw_patch(side: u32, patch: Patch, grid: &mut [u8]) -> DrawAnswer
     ensures { λ r. ⌜ Draws side (patchOf patch) (now (grid .entry)) (now (grid .exit)) r ⌝ }
 {

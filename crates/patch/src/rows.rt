@@ -129,7 +129,7 @@ impl Lines {
     }
 }
 
-// Marks the cells of an accepted patch's samples, row by row. Answers how many of them were unmarked before.
+// Marks the cells of an accepted patch's samples, over or under, row by row. Answers how many of them were unmarked before.
 pub(crate) fn mark_rows(side: u32, patch: Patch, grid: &mut [u8]) -> u32
     requires { ⌜ drawVerdict side (length (now grid)) (patchOf patch) ≡ accepted ⌝ }
     ensures { λ r. ⌜ r + unmarkedCells (now (grid .exit)) ≡ unmarkedCells (now (grid .entry)) ⌝ }
@@ -138,11 +138,12 @@ pub(crate) fn mark_rows(side: u32, patch: Patch, grid: &mut [u8]) -> u32
     let h = scan::number::grid_strides(side);
     let scale = crate::start::scale(patch);
     let mark = patch.mark;
+    let choice = patch.choice;
     let mut lines = start_lines(patch, h);
-    let mut new_cells = scan::mark::mark_row(lines.row(), patch.n, scale, h, mark, grid);
+    let mut new_cells = scan::mark::mark_row(lines.row(), patch.n, scale, h, mark, choice, grid);
     for j in 0..patch.m {
         lines = lines.next(scale, h);
-        new_cells += scan::mark::mark_row(lines.row(), patch.n, scale, h, mark, grid);
+        new_cells += scan::mark::mark_row(lines.row(), patch.n, scale, h, mark, choice, grid);
     }
     new_cells
 }

@@ -6,6 +6,7 @@ use Prim.Native.Nat.{ℕ, suc}
 use lib.Dec.{ltb, eqb}
 use Rattle.decide.specs.Refusal.{Rule, _when_, Verdict, accepted, refused, firstThat}
 use Rattle.cube.specs.Cube.{sideOut}
+use Rattle.drawing.specs.declared.Choice.the-variants.{Over}
 use Rattle.drawing.specs.Object.{Object, curve}
 use Rattle.drawing.specs.Refusals.{order}
 use Rattle.sheet.specs.Line.{lines, isWrong, number, someBad}
@@ -23,8 +24,9 @@ strokeOf l = record {
   mark = number l 0;
 }
 
+-- What a stroke draws: document 02, A.11, "sheets always mean over".
 abbrev pub objectOf : Stroke → Object
-objectOf s = curve (s .steps) (s .points) (s .mark)
+objectOf s = curve (s .steps) (s .points) (s .mark) Over
 
 -- Sheet line 1: 41, 42, 11, 43.
 unfoldable pub sideOrder : (line : List ℕ) → List Rule

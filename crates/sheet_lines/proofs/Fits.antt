@@ -11,6 +11,7 @@ use borrow.Author.Tests.{not-true, ne-eqb, le-ltb, eqb-false, ltb-false}
 use Rattle.decide.specs.Some.{someBelow}
 use Rattle.decide.proofs.Truth.{both-false, true-of, false-of, false-iff}
 use Rattle.decide.proofs.Some.{some-below}
+use Rattle.drawing.specs.declared.Choice.the-variants.{Over}
 use Rattle.drawing.specs.Refusals.{countOut}
 use Rattle.curve.specs.Curve.{curveOf}
 use Rattle.sheet.specs.Field.{isBad}
@@ -155,7 +156,7 @@ points-at l k h = listed-at (number l) 2 12 k h
 -- What is read of a line that fits, coordinate by coordinate, is its stroke.
 pub fit-line : (l ps : List ℕ) (n m : ℕ) → fits l ≡ true → m ≡ readField (field l 0) → n ≡ readField (field l 1) →
     length ps ≡ 12 → ((k : ℕ) → k < 12 → getD ps k 0 ≡ readField (field l (k + 2))) →
-    record { curve = record { points = ps; steps = n; mark = m }; fits = true } ≡ readLine l
+    record { curve = record { points = ps; steps = n; mark = m; choice = Over }; fits = true } ≡ readLine l
 unfolding listed readLine
 fit-line l ps n m e mark steps twelve at =
     let points = all-listed (number l) 2 ps 12 twelve (λ k h. at k h ∙ fit-read l e (k + 2) (omega arith)) in

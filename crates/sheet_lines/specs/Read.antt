@@ -5,6 +5,7 @@ use Prim.Native.Nat.{ℕ, _+_}
 use lib.Dec.{ltb, eqb}
 use lib.ListN.{replicate}
 use Rattle.decide.specs.Some.{someBelow}
+use Rattle.drawing.specs.declared.Choice.the-variants.{Over}
 use Rattle.drawing.specs.Refusals.{countOut}
 use Rattle.sheet.specs.Field.{isBad, valueOf}
 use Rattle.sheet.specs.Line.{number, someBad}
@@ -24,15 +25,15 @@ firstLine (b ∷ bs) = b ∷ cond (eqb b 10) [] (firstLine bs)
 unfoldable pub fits : (line : List ℕ) → Bool
 fits l = not (someBad 14 l) && not (markOut (number l 0)) && not (someBelow 12 (λ k. ltb 255 (number l (k + 2))))
 
--- What a curve line that fits is read as: its curve. One that does not is read as a record of zeros.
+-- What a curve line that fits is read as: its curve, which goes over. One that does not is read as a record of zeros.
 abbrev pub fitRead : (line : List ℕ) → Read
 fitRead l = let s = strokeOf l in record {
-  curve = record { points = s .points; steps = s .steps; mark = s .mark };
+  curve = record { points = s .points; steps = s .steps; mark = s .mark; choice = Over };
   fits = true;
 }
 
 abbrev pub unfitRead : Read
-unfitRead = record { curve = record { points = replicate 12 0; steps = 0; mark = 0 }; fits = false }
+unfitRead = record { curve = record { points = replicate 12 0; steps = 0; mark = 0; choice = Over }; fits = false }
 
 unfoldable pub readLine : (line : List ℕ) → Read
 readLine l = cond (fits l) (fitRead l) unfitRead

@@ -8,6 +8,7 @@ ghost use Rattle.sheet.specs.Sheet.{markOut};
 ghost use Rattle.sheet_lines.specs.Read.{readField, firstLine, unfitRead, readLine, firstOf, unfitRefusal};
 use crate::field::number;
 use curve::Curve;
+use drawing::Choice;
 
 // The number in field k, from 0; 100000 if the field is bad.
 pub fn number_at(line: &[u8], k: usize) -> u32
@@ -68,10 +69,12 @@ pub fn read_curve(line: &[u8]) -> Read
         points[k] = c as u8;
         k += 1;
     }
+    let choice = Choice::Over; // as sheets always mean
     let curve = Curve {
         points,
         steps,
         mark: mark as u8,
+        choice,
     };
     Read { curve, fits: true }
 }
@@ -84,6 +87,7 @@ fn unfit() -> Read
         points: [0u8; 12],
         steps: 0,
         mark: 0,
+        choice: Choice::Over,
     };
     Read { curve, fits: false }
 }

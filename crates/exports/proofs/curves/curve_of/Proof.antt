@@ -13,7 +13,7 @@ copy-requires c κs = search needs
 
 returns : tie.Need-returns
 returns c =
-    let s = c .before .before .before .before in ap (λ p. curve (s .args .steps) p (s .args .mark)) (c .before .copy .ensures)
+    let s = c .before .before .before .before in ap (λ p. curve (s .args .steps) p (s .args .mark) (s .args .choice)) (c .before .copy .ensures)
 
 pub curve-of-spec : {M : Type 1} → statement M
 curve-of-spec = tie.close (tie.spec slice-aggregate-copy copy-requires returns)

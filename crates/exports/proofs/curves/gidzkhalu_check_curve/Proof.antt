@@ -1,6 +1,7 @@
 -- `gidzkhalu_check_curve` meets its contract: the record's length is judged, then the call.
 use borrow.Author.Needs.{needs}
 use native.Mathlib.Omega.{arith}
+use Rattle.drawing.specs.declared.Choice.the-variants.{Over}
 use Rattle.drawing.specs.Object.{curve}
 use Rattle.exports.proofs.Small.{reads}
 use Rattle.exports.proofs.Calls.{wrong-check, right-check}
@@ -13,7 +14,7 @@ refused-requires c κs = search needs
 returns : tie.Need-returns
 returns c =
     let s = c .before .before .before in
-    wrong-check 12 (s .args .side) (curve (s .args .steps) (s .args .points .now) 0) (c .before .if1 .taken) (reads (c .refused .ensures))
+    wrong-check 12 (s .args .side) (curve (s .args .steps) (s .args .points .now) 0 Over) (c .before .if1 .taken) (reads (c .refused .ensures))
 
 curve-of-requires : tie.Need-curve-of-requires
 curve-of-requires c κs = search needs
@@ -29,7 +30,7 @@ returns-2 c =
     let k = c .before in
     let e = k .before .before in
     let s = e .before .before in
-    right-check 12 (s .args .side) (curve (s .args .steps) (s .args .points .now) 0) _ (omega (arith, e .if1 .left))
+    right-check 12 (s .args .side) (curve (s .args .steps) (s .args .points .now) 0 Over) _ (omega (arith, e .if1 .left))
     (k .before .curve-of .ensures) (k .check-curve .ensures) (reads (c .of-verdict .ensures))
 
 pub gidzkhalu-check-curve-spec : {M : Type 1} → statement M

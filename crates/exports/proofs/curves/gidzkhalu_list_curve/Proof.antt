@@ -2,7 +2,7 @@
 use borrow.Author.Needs.{needs}
 use native.Mathlib.Omega.{arith}
 use Rattle.exports.proofs.Small.{reads}
-use Rattle.exports.proofs.Calls.{wrong-record, right-record}
+use Rattle.exports.proofs.Calls.{wrong-listing, right-listing}
 use Rattle.exports.proofs.curves.gidzkhalu_list_curve.Statement.{statement}
 use Rattle.exports.proofs.curves.gidzkhalu_list_curve.Tie as tie
 
@@ -11,7 +11,8 @@ refused-requires c κs = search needs
 
 returns : tie.Need-returns
 returns c =
-    wrong-record 12 _ _ _ _ _ (c .before .if1 .taken) (reads (c .refused .ensures))
+    let s = c .before .before .before .before in
+    wrong-listing 12 (s .args .points .now) _ _ _ _ (c .before .if1 .taken) (reads (c .refused .ensures))
 
 curve-of-requires : tie.Need-curve-of-requires
 curve-of-requires c κs = search needs
@@ -31,7 +32,7 @@ returns-2 c =
     let m = k .before .before in
     let e = m .before in
     let d = rw (m .curve-of .ensures) at (k .list-curve .ensures) in
-    right-record 12 _ _ _ _ _ (omega (arith, e .if1 .left)) (d .answer) (d .leaves)
+    right-listing 12 (e .before .before .before .args .points .now) _ _ _ _ (omega (arith, e .if1 .left)) (d .answer) (d .leaves)
     (reads (c .of-listing .ensures))
 
 pub gidzkhalu-list-curve-spec : {M : Type 1} → statement M

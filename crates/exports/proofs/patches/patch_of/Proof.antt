@@ -13,7 +13,7 @@ copy-requires c κs = search needs
 
 returns : tie.Need-returns
 returns c =
-    let s = c .before .before .before .before in ap (λ p. patch (s .args .n) (s .args .m) p (s .args .mark)) (c .before .copy .ensures)
+    let s = c .before .before .before .before in ap (λ p. patch (s .args .n) (s .args .m) p (s .args .mark) (s .args .choice)) (c .before .copy .ensures)
 
 pub patch-of-spec : {M : Type 1} → statement M
 patch-of-spec = tie.close (tie.spec slice-aggregate-copy copy-requires returns)

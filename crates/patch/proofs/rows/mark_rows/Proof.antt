@@ -35,7 +35,7 @@ use Rattle.patch.proofs.rows.mark_rows.Tie as tie
 record SoFar (S : ℕ) (p : Patch) (grid₀ : List ℕ) (new₀ : ℕ) (grid : List ℕ) (lines : Lines) (new j : ℕ) : Type 0 where
   pub within : j ≤ p .m
   pub on-row : OnRow p (gridStrides S) j lines
-  pub marks : (g : List ℕ) → grid₀ ≡ marked (p .mark) (places S p 0) g → grid ≡ marked (p .mark) (places S p j) g
+  pub marks : (g : List ℕ) → grid₀ ≡ marked (p .choice) (p .mark) (places S p 0) g → grid ≡ marked (p .choice) (p .mark) (places S p j) g
   pub size : length grid ≡ volume S
   pub fewer : new + unmarkedCells grid ≡ new₀ + unmarkedCells grid₀
 
@@ -47,23 +47,23 @@ first-so-far S p o v = record { within = zero-le; on-row = o; marks = λ g e. e;
 -- After the next row.
 next-so-far : (S : ℕ) (p : Patch) {grid₀ grid : List ℕ} {lines lines′ : Lines} {new₀ new j : ℕ} →
     SoFar S p grid₀ new₀ grid lines new j → j < p .m → OnRow p (gridStrides S) (suc j) lines′ →
-    {grid′ : List ℕ} (more : ℕ) → grid′ ≡ marked (p .mark) (row-at S p (suc j)) grid →
+    {grid′ : List ℕ} (more : ℕ) → grid′ ≡ marked (p .choice) (p .mark) (row-at S p (suc j)) grid →
     more + unmarkedCells grid′ ≡ unmarkedCells grid → SoFar S p grid₀ new₀ grid′ lines′ (new + more) (suc j)
 next-so-far S p {grid₀} {grid} {j = j} s l o more e one = record {
   within = l;
   on-row = o;
   marks = λ g f.
-      e ∙ ap (marked (p .mark) (row-at S p (suc j))) (s .marks g f) ∙
-      sym (ap (λ ps. marked (p .mark) ps g) (one-row-more S p j) ∙ marked-append (p .mark) (places S p j) (row-at S p (suc j)) g);
-  size = ap length e ∙ length-marked (p .mark) (row-at S p (suc j)) grid ∙ s .size;
+      e ∙ ap (marked (p .choice) (p .mark) (row-at S p (suc j))) (s .marks g f) ∙
+      sym (ap (λ ps. marked (p .choice) (p .mark) ps g) (one-row-more S p j) ∙ marked-append (p .choice) (p .mark) (places S p j) (row-at S p (suc j)) g);
+  size = ap length e ∙ length-marked (p .choice) (p .mark) (row-at S p (suc j)) grid ∙ s .size;
   fewer = omega (arith, one, s .fewer);
 }
 
 abbrev Inv-loop : tie.InvT-loop
-Inv-loop side patch grid₀ h scale mark lines₀ new₀ j₀ j-end grid lines new j = SoFar side patch grid₀ new₀ grid lines new j
+Inv-loop side patch grid₀ h scale mark choice lines₀ new₀ j₀ j-end grid lines new j = SoFar side patch grid₀ new₀ grid lines new j
 
 abbrev μ-loop : tie.MeasureT-loop
-μ-loop side patch grid₀ h scale mark lines₀ new₀ j₀ j-end grid lines new j = patch .m - j
+μ-loop side patch grid₀ h scale mark choice lines₀ new₀ j₀ j-end grid lines new j = patch .m - j
 
 module _ (c : tie.Start Inv-loop μ-loop) where
   abbrev patch : Patch
@@ -124,7 +124,7 @@ loop-holds c =
     let l = c .before .before .before .before .before in
     let s = l .before .before .before .before in
     first-so-far (s .args .side) (patch s) (start-lines-on l)
-    (ap length (c .before .before .mark-row .ensures .1) ∙ length-marked _ _ _ ∙ volume-is s)
+    (ap length (c .before .before .mark-row .ensures .1) ∙ length-marked _ _ _ _ ∙ volume-is s)
 
 -- In the loop.
 module _ (c : tie.In-loop Inv-loop μ-loop) where
@@ -222,7 +222,7 @@ returns c =
     (start-lines-on (r .before)) (r .row .ensures) zero-le (now (s .args .grid)) (m .mark-row .ensures .1) in (
       l .inv .fewer ∙ m .mark-row .ensures .0,
       rw last at (l .inv .marks (now (s .args .grid))
-          (row0 ∙ ap (λ ps. marked (patch s .mark) ps (now (s .args .grid))) (sym (first-row (s .args .side) (patch s))))) ∙
+          (row0 ∙ ap (λ ps. marked (patch s .choice) (patch s .mark) ps (now (s .args .grid))) (sym (first-row (s .args .side) (patch s))))) ∙
           sym (drawn-rows (s .args .side) (patch s) (now (s .args .grid)) (s .pre)),
     )
 

@@ -10,13 +10,14 @@ use native.Mathlib.Numerals.{add-one}
 use native.Mathlib.Omega.{arith}
 use lib.Dec.{eqb}
 use lib.IntN.{ℤ}
-use lib.ListN.{length, getD, set, length-set}
+use lib.ListN.{length, getD, length-set}
 use mir.Syntax.{w64}
 use mir.Val.{toZ, boolByte}
 use mir.Facts.{toZ-ofZ}
-use Rattle.drawing.specs.Drawing.{marked}
+use Rattle.drawing.specs.declared.Choice.{Choice}
+use Rattle.drawing.specs.Drawing.{written, marked}
 use Rattle.drawing.specs.NewCells.{unmarkedCells}
-use Rattle.drawing.proofs.Marked.{marked-append}
+use Rattle.drawing.proofs.Marked.{markedAt, written-marked, marked-append}
 use Rattle.drawing.proofs.NewCells.{unmarked-set}
 use Rattle.scan.specs.declared.walker.Walker.{Walker}
 use Rattle.scan.specs.declared.walker.Strides.{Strides}
@@ -31,24 +32,29 @@ counted true = (refl, omega arith)
 counted false = (refl, omega arith)
 
 -- The row so far, where grid₀ has the mark of its first walker and new₀ counts that cell if it was unmarked.
-record SoFar (scale : ℤ) (h : Strides) (mark : ℕ) (w₀ : Walker) (grid₀ : List ℕ) (new₀ n i : ℕ) (w : Walker)
+record SoFar (scale : ℤ) (h : Strides) (mark : ℕ) (choice : Choice) (w₀ : Walker) (grid₀ : List ℕ) (new₀ n i : ℕ) (w : Walker)
     (grid : List ℕ) (new : ℕ) : Type 0 where
   pub steps : AfterSteps scale h w₀ n i w
   pub room : OnGrid n scale h w₀ (length grid)
-  pub marks : (g : List ℕ) → grid₀ ≡ set g (placeOf w₀) mark → grid ≡ marked mark (map placeOf (walkers i scale h w₀)) g
+  pub marks : (g : List ℕ) → grid₀ ≡ markedAt choice mark g (placeOf w₀) →
+      grid ≡ marked choice mark (map placeOf (walkers i scale h w₀)) g
   pub size : length grid ≡ length grid₀
   pub fewer : new + unmarkedCells grid ≡ new₀ + unmarkedCells grid₀
   pub few : new ≤ 1 + i
 
--- A mark at a place, and what it adds to the count.
-module _ (mark : ℕ) (h : 1 ≤ mark) (grid : List ℕ) (p : ℕ) (l : p < length grid) where
-  one-more : (b : Bool) → b ≡ eqb (getD grid p 0) 0 → boolByte b + unmarkedCells (set grid p mark) ≡ unmarkedCells grid
-  one-more b e = ap (_+ unmarkedCells (set grid p mark)) (counted b .0 ∙ ap (λ t. cond t 1 0) e) ∙ unmarked-set mark h grid p l
+-- A mark at a place, over or under, and what it adds to the count.
+module _ (mark : ℕ) (choice : Choice) (h : 1 ≤ mark) (grid : List ℕ) (p : ℕ) (l : p < length grid) where
+  one-more : (b : Bool) → b ≡ eqb (getD grid p 0) 0 →
+      boolByte b + unmarkedCells (markedAt choice mark grid p) ≡ unmarkedCells grid
+  one-more b e =
+      ap (_+ unmarkedCells (markedAt choice mark grid p)) (counted b .0 ∙ ap (λ t. cond t 1 0) e) ∙
+      unmarked-set (written choice mark (getD grid p 0)) (written-marked choice (getD grid p 0) h) grid p l
 
-module _ (scale : ℤ) (h : Strides) (mark : ℕ) (w₀ : Walker) where
+module _ (scale : ℤ) (h : Strides) (mark : ℕ) (choice : Choice) (w₀ : Walker) where
   -- With the first mark.
   first : {n : ℕ} (g : List ℕ) (b : Bool) → OnGrid n scale h w₀ (length g) →
-      SoFar scale h mark w₀ (set g (placeOf w₀) mark) (boolByte b) n 0 w₀ (set g (placeOf w₀) mark) (boolByte b)
+      SoFar scale h mark choice w₀ (markedAt choice mark g (placeOf w₀)) (boolByte b) n 0 w₀ (markedAt choice mark g (placeOf w₀))
+      (boolByte b)
   unfolding walkers marked
   first {n} g b r = record {
     steps = no-steps scale h w₀ n;
@@ -61,9 +67,9 @@ module _ (scale : ℤ) (h : Strides) (mark : ℕ) (w₀ : Walker) where
 
   -- With the mark of the next step's place.
   next : {n i new₀ new : ℕ} {w w′ : Walker} {grid₀ grid : List ℕ} (b : Bool) →
-      SoFar scale h mark w₀ grid₀ new₀ n i w grid new → i < n → w′ ≡ stepAll scale h w →
-      boolByte b + unmarkedCells (set grid (placeOf w′) mark) ≡ unmarkedCells grid →
-      SoFar scale h mark w₀ grid₀ new₀ n (suc i) w′ (set grid (placeOf w′) mark) (new + boolByte b)
+      SoFar scale h mark choice w₀ grid₀ new₀ n i w grid new → i < n → w′ ≡ stepAll scale h w →
+      boolByte b + unmarkedCells (markedAt choice mark grid (placeOf w′)) ≡ unmarkedCells grid →
+      SoFar scale h mark choice w₀ grid₀ new₀ n (suc i) w′ (markedAt choice mark grid (placeOf w′)) (new + boolByte b)
   unfolding walkers marked
   next {i} b s l e one =
       let more = step-more (s .steps) l e in
@@ -72,7 +78,7 @@ module _ (scale : ℤ) (h : Strides) (mark : ℕ) (w₀ : Walker) where
         room = rw length-set (s .room);
         marks = λ g f.
             rw (s .marks g f, more .walker, map-append)
-            (sym (marked-append mark (map placeOf (walkers i scale h w₀)) _ g));
+            (sym (marked-append choice mark (map placeOf (walkers i scale h w₀)) _ g));
         size = rw length-set (s .size);
         fewer = omega (arith, one, s .fewer);
         few = omega (arith, counted b .1, s .few);
@@ -88,10 +94,10 @@ module _ {scale : ℤ} {h : Strides} {n i len : ℕ} {w₀ w : Walker} (r : OnGr
   byte = holds-now s (λ v. placeOf v < len) (r .bytes)
 
 abbrev Inv-loop : tie.InvT-loop
-Inv-loop n scale h mark grid₀ w₀ new₀ i₀ grid w new i = SoFar (toZ w64 scale) h mark w₀ grid₀ new₀ n i w grid new
+Inv-loop n scale h mark choice grid₀ w₀ new₀ i₀ grid w new i = SoFar (toZ w64 scale) h mark choice w₀ grid₀ new₀ n i w grid new
 
 abbrev μ-loop : tie.MeasureT-loop
-μ-loop n scale h mark grid₀ w₀ new₀ i₀ grid w new i = n - i
+μ-loop n scale h mark choice grid₀ w₀ new₀ i₀ grid w new i = n - i
 
 place-requires : tie.Need-place-requires Inv-loop μ-loop
 place-requires c κs = has-place (c .before .before .pre .0) (no-steps _ _ _ _)
@@ -106,7 +112,7 @@ loop-holds : tie.Need-loop-holds Inv-loop μ-loop
 loop-holds c =
     let s = c .before .before .before .before .before .before in
     rw (toZ-ofZ (s .fits .scale), c .before .before .mark-cell .ensures .1, c .before .before .before .place .ensures)
-    (first (s .args .scale) (s .args .h) (s .args .mark) (s .args .start) (now (s .args .grid)) (c .before .before .mark-cell .result)
+    (first (s .args .scale) (s .args .h) (s .args .mark) (s .args .choice) (s .args .start) (now (s .args .grid)) (c .before .before .mark-cell .result)
     (s .pre .0))
 
 step-requires : tie.Need-step-requires Inv-loop μ-loop
@@ -148,8 +154,8 @@ loop-again c =
     let p = m .before .place2 .ensures in
     let there = byte (l .loop .inv .room) (step-more (l .loop .inv .steps) (b .before .loop-test .taken) (b .step .ensures)) in
     rw (add-one, m .mark-cell2 .ensures .1, p)
-    (next _ _ _ _ (m .mark-cell2 .result) (l .loop .inv) (b .before .loop-test .taken) (b .step .ensures)
-    (one-more (s .args .mark) (s .pre .1 .1) (l .loop .grid) _ there (m .mark-cell2 .result) (rw p at (m .mark-cell2 .ensures .0))))
+    (next _ _ _ _ _ (m .mark-cell2 .result) (l .loop .inv) (b .before .loop-test .taken) (b .step .ensures)
+    (one-more (s .args .mark) (s .args .choice) (s .pre .1 .1) (l .loop .grid) _ there (m .mark-cell2 .result) (rw p at (m .mark-cell2 .ensures .0))))
 
 same-length : tie.Need-same-length Inv-loop μ-loop
 same-length c = let size = c .before .loop .inv .size in search needs
@@ -161,7 +167,7 @@ returns c =
     let e : l .i ≡ s .args .n = omega (arith, l .inv .steps .within) in
     let m = c .before .before .before .before in
     let p = m .before .place .ensures in
-    let one = one-more (s .args .mark) (s .pre .1 .1) (now (s .args .grid)) _ (byte (s .pre .0) (no-steps _ _ _ _)) (m .mark-cell .result)
+    let one = one-more (s .args .mark) (s .args .choice) (s .pre .1 .1) (now (s .args .grid)) _ (byte (s .pre .0) (no-steps _ _ _ _)) (m .mark-cell .result)
     (rw p at (m .mark-cell .ensures .0)) in (
       l .inv .fewer ∙ rw (m .mark-cell .ensures .1, p) one,
       rw (toZ-ofZ (s .fits .scale), e) at (l .inv .marks (now (s .args .grid)) (cc)),

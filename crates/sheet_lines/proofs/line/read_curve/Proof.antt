@@ -100,8 +100,8 @@ loop-again c =
           (omega (arith, r .ensures), getD-set-same (l .points) (l .k) (r .result) 0 (omega arith) ∙ r .ensures),
     )
 
-cast-t16 : tie.Need-cast-t16 Inv-loop μ-loop
-cast-t16 c =
+cast-t17 : tie.Need-cast-t17 Inv-loop μ-loop
+cast-t17 c =
     let m = c .before .before .before .before .before in
     let w = mark-in (m .before .number-at .result) .0 (sym (m .is-mark-out .ensures) ∙ c .before .before .before .before .if1 .left) in
     record { fits = omega arith }
@@ -143,5 +143,5 @@ read-curve-spec =
     add-k
     loop-less
     loop-again
-    cast-t16
+    cast-t17
     returns-4)
