@@ -4,13 +4,14 @@ use mathlib.Core.List.{List, [], _++_, map, map-map}
 use Prim.Native.Nat.{ℕ, suc, _*_, _≤_}
 use native.Mathlib.Omega.{arith}
 use lib.Dec.{lit≤}
-use lib.IntN.{pos}
+use lib.IntN.{ℤ, pos}
 use lib.ListN.{length, drop}
 use Rattle.decide.specs.Refusal.{accepted}
 use Rattle.bezier.specs.Exact.{no-index, index, no-corner, first}
 use Rattle.bezier.proofs.Ends.{corner-value}
 use Rattle.neighbours.specs.Steps.{first as step}
-use Rattle.cube.specs.Cube.{Axis, x-axis, y-axis, z-axis}
+use Rattle.cube.specs.Cube.{Axis, x-axis, y-axis, z-axis, volume}
+use Rattle.drawing.specs.declared.Choice.{Choice}
 use Rattle.drawing.specs.Object.{offset, coordinate, scaleOf, exact}
 use Rattle.drawing.specs.Refusals.{Drawable, drawVerdict, listVerdict, sampleCount}
 use Rattle.drawing.specs.Drawing.{marked, bytes, cells, drawn, listed}
@@ -21,9 +22,11 @@ use Rattle.cubic.specs.Differences.{differencesAt}
 use Rattle.cubic.specs.Axis.{startOf}
 use Rattle.cubic.proofs.Tracks.{start-tracks}
 use Rattle.scan.specs.declared.walker.Strides.{Strides}
-use Rattle.scan.specs.Walker.{axisOf, strideOf, gridStrides, listStrides, placeOf, cellOfWalker, walkers}
+use Rattle.scan.specs.declared.walker.Walker.{Walker}
+use Rattle.scan.specs.Walker.{axisOf, strideOf, gridStrides, listStrides, placeOf, cellOfWalker, walkers, OnGrid}
 use Rattle.scan.proofs.Axes.{offset-small}
-use Rattle.scan.proofs.Samples.{Walk, At, along, gridStride, grid-stride-is, grid-stride-small, list-stride-is, row-places, row-cells}
+use Rattle.scan.proofs.Samples.{Walk, At, along, gridStride, grid-stride-is, grid-stride-small, list-stride-is}
+use Rattle.scan.proofs.Samples.{row-on-grid, row-places, row-cells}
 use Rattle.curve.specs.declared.Curve.{Curve}
 use Rattle.curve.specs.Curve.{curveOf}
 use Rattle.curve.specs.Machine.{InLimits, doubledAlong, startWalker}
@@ -95,3 +98,13 @@ module _ {S : ℕ} (c : Curve) (twelve : length (c .points) ≡ 12) (d : Drawabl
       let one : suc (c .steps) * 1 ≡ suc (c .steps) = omega arith in
       listed-accepted S (curveOf c) list e ∙
       rw (one-row (c .steps), row-cells list-row (start-at c d listStrides), one)
+
+-- The same with the scale N, the strides h and the walker w as the code holds them, and with the choice that is told.
+module _ {S : ℕ} (c : Curve) (twelve : length (c .points) ≡ 12) (d : Drawable S (curveOf c)) {N : ℤ} {h : Strides} {w : Walker}
+    (e : N ≡ pos (scaleOf (curveOf c))) (f : h ≡ gridStrides S) (q : w ≡ startWalker c h) where
+  pub room-for-row : {len : ℕ} → len ≡ volume S → OnGrid (c .steps) N h w len
+  room-for-row v = rw (v, q, e, f) (row-on-grid (grid-row c twelve d) (start-at c d (gridStrides S)))
+
+  pub row-marks : (grid : List ℕ) → drawVerdict S (length grid) (curveOf c) ≡ accepted → {k : Choice} {after : List ℕ} →
+      c .choice ≡ k → after ≡ marked k (c .mark) (map placeOf (walkers (c .steps) N h w)) grid → after ≡ drawn S (curveOf c) grid
+  row-marks grid a told r = rw (q, e, f, ← told) at r ∙ sym (drawn-row c twelve d grid a)

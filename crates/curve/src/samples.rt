@@ -15,6 +15,7 @@ ghost use Rattle.curve.specs.Machine.{InLimits, doubledAlong, startWalke
 use crate::Curve;
 use crate::steps::cubic_along;
 use cubic::axis::Axis;
+use drawing::Choice;
 use scan::walker::Strides;
 use scan::walker::Walker;
 
@@ -46,7 +47,8 @@ fn start_walker(curve: Curve, h: Strides) -> Walker
     }
 }
 
-// Marks the cells of an accepted curve's samples, over or under. Answers how many of them were unmarked before.
+// Marks the cells of an accepted curve's samples, over or under. Answers how many of them were unmarked before. The choice is
+// told once, outside the loop, which is compiled with each.
 pub fn mark_samples(side: u32, curve: Curve, grid: &mut [u8]) -> u32
     requires { ⌜ drawVerdict side (length (now grid)) (curveOf curve) ≡ accepted ⌝ }
     ensures { λ r. ⌜ r + unmarkedCells (now (grid .exit)) ≡ unmarkedCells (now (grid .entry)) ⌝ }
@@ -55,8 +57,13 @@ pub fn mark_samples(side: u32, curve: Curve, grid: &mut [u8]) -> u32
     let h = scan::number::grid_strides(side);
     let start = start_walker(curve, h);
     let scale = scan::number::cubed(curve.steps);
+    let n = curve.steps;
+    let mark = curve.mark;
     let choice = curve.choice;
-    scan::mark::mark_row(start, curve.steps, scale, h, curve.mark, choice, grid)
+    match choice {
+        Choice::Over => scan::mark::mark_row(start, n, scale, h, mark, Choice::Over, grid),
+        Choice::Under => scan::mark::mark_row(start, n, scale, h, mark, Choice::Under, grid),
+    }
 }
 
 // Lists the cells of an accepted curve's samples.

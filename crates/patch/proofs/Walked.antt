@@ -1,7 +1,7 @@
 -- The walk through a patch's rows. The walk along u through t = 0 stands in the cell of each row's first sample, with its
 -- remainder, and that is all that a row needs of it: coordinate and remainder are the sample's value. The cubics beside it
 -- hold the row's differences along t.
-use mathlib.Core.Path.{_≡_, refl, _∙_, ap}
+use mathlib.Core.Path.{_≡_, refl, sym, _∙_, ap}
 use mathlib.Core.List.{List, [], _∷_, _++_, map, map-append, map-map, append-nil}
 use Prim.Native.Nat.{ℕ, zero, suc, _*_, _≤_, _<_, zero-le}
 use native.Mathlib.Omega.{arith}
@@ -13,6 +13,7 @@ use Rattle.bezier.proofs.Ends.{corner-value}
 use Rattle.decide.specs.Refusal.{accepted}
 use Rattle.neighbours.specs.Steps.{Neighbours, later, first as step}
 use Rattle.cube.specs.Cube.{Axis, x-axis, y-axis, z-axis, place}
+use Rattle.drawing.specs.declared.Choice.{Choice}
 use Rattle.drawing.specs.Object.{offset, coordinate, scaleOf, exact, cellOf}
 use Rattle.drawing.specs.Refusals.{Drawable, drawVerdict}
 use Rattle.drawing.specs.Drawing.{row, rows, samples, marked, cells, drawn}
@@ -194,16 +195,25 @@ module _ (S : ℕ) (p : Patch) where
   row-at j = map (λ s. place S (cellOf (patchOf p) s)) (row (p .n) (j ∷ []))
 
   -- Row 0 alone, and one row more.
-  pub first-row : places S p 0 ≡ row-at 0
+  first-row : places S p 0 ≡ row-at 0
   unfolding row rows
   first-row = ap (map (λ s. place S (cellOf (patchOf p) s))) (append-nil (row (p .n) (0 ∷ [])))
 
-  pub one-row-more : (j : ℕ) → places S p (suc j) ≡ places S p j ++ row-at (suc j)
+  one-row-more : (j : ℕ) → places S p (suc j) ≡ places S p j ++ row-at (suc j)
   unfolding row rows
   one-row-more j =
       ap (map (λ s. place S (cellOf (patchOf p) s)))
       (rows-append (p .n) (row j []) ((suc j ∷ []) ∷ []) ∙ ap (λ r. rows (p .n) (row j []) ++ r) (append-nil (row (p .n) (suc j ∷ [])))) ∙
       map-append (λ s. place S (cellOf (patchOf p) s)) (rows (p .n) (row j [])) _
+
+  -- The places of the rows before row j; with those of row j they are those of the rows 0 to j.
+  abbrev pub earlier : ℕ → List ℕ
+  earlier zero = []
+  earlier (suc j) = places S p j
+
+  pub with-row : (j : ℕ) → earlier j ++ row-at j ≡ places S p j
+  with-row zero = sym first-row
+  with-row (suc j) = sym (one-row-more j)
 
   -- What an accepted drawing leaves are the marks of all rows.
   pub drawn-rows : (grid : List ℕ) → drawVerdict S (length grid) (patchOf p) ≡ accepted →
@@ -216,7 +226,7 @@ pub lines-start : {S : ℕ} (p : Patch) → Drawable S (patchOf p) → {h : Stri
     h ≡ gridStrides S → lines ≡ startLines p h → OnRow p (gridStrides S) 0 lines
 lines-start {S} p d f q = rw (q, f) (start-on-row p (gridStrides S) d)
 
--- The same with the scale N and the strides h as the code holds them.
+-- The same with the scale N and the strides h as the code holds them, and with the choice that is told.
 module _ {S : ℕ} (p : Patch) (l : InLimits p) (d : Drawable S (patchOf p)) {N : ℤ} {h : Strides} (e : N ≡ pos (scaleOf (patchOf p)))
     (f : h ≡ gridStrides S) {j : ℕ} {lines : Lines} (o : OnRow p (gridStrides S) j lines) where
   pub room-for-next : j < p .m → LinesRoom N h lines
@@ -229,6 +239,7 @@ module _ {S : ℕ} (p : Patch) (l : InLimits p) (d : Drawable S (patchOf p)) {N 
     pub room-for-row : {len : ℕ} → len ≡ S * S * S → OnGrid (p .n) N h w len
     room-for-row v = rw (v, q, e, f) (row-in-grid p l d o hj)
 
-    pub row-marks : (grid : List ℕ) {grid′ : List ℕ} → grid′ ≡ marked (p .choice) (p .mark) (map placeOf (walkers (p .n) N h w)) grid →
+    pub row-marks : (grid : List ℕ) {k : Choice} {grid′ : List ℕ} → p .choice ≡ k →
+        grid′ ≡ marked k (p .mark) (map placeOf (walkers (p .n) N h w)) grid →
         grid′ ≡ marked (p .choice) (p .mark) (row-at S p j) grid
-    row-marks grid r = rw (q, e, f, places-of-row p l d o hj) at r
+    row-marks grid told r = rw (q, e, f, places-of-row p l d o hj, ← told) at r

@@ -14,6 +14,7 @@ use crate::Patch;
 use crate::start::start_surface;
 use cubic::axis::Axis;
 use cubic::differences::Cubic;
+use drawing::Choice;
 use scan::walker::Strides;
 use scan::walker::Walker;
 
@@ -130,6 +131,7 @@ impl Lines {
 }
 
 // Marks the cells of an accepted patch's samples, over or under, row by row. Answers how many of them were unmarked before.
+// The choice is told once a row, outside its loop, which is compiled with each.
 pub(crate) fn mark_rows(side: u32, patch: Patch, grid: &mut [u8]) -> u32
     requires { ⌜ drawVerdict side (length (now grid)) (patchOf patch) ≡ accepted ⌝ }
     ensures { λ r. ⌜ r + unmarkedCells (now (grid .exit)) ≡ unmarkedCells (now (grid .entry)) ⌝ }
@@ -137,13 +139,24 @@ pub(crate) fn mark_rows(side: u32, patch: Patch, grid: &mut [u8]) -> u32
 {
     let h = scan::number::grid_strides(side);
     let scale = crate::start::scale(patch);
+    let n = patch.n;
     let mark = patch.mark;
     let choice = patch.choice;
     let mut lines = start_lines(patch, h);
-    let mut new_cells = scan::mark::mark_row(lines.row(), patch.n, scale, h, mark, choice, grid);
-    for j in 0..patch.m {
+    let mut new_cells = 0;
+    let mut j = 0;
+    loop {
+        let row = lines.row();
+        let new_in_row = match choice {
+            Choice::Over => scan::mark::mark_row(row, n, scale, h, mark, Choice::Over, grid),
+            Choice::Under => scan::mark::mark_row(row, n, scale, h, mark, Choice::Under, grid),
+        };
+        new_cells += new_in_row;
+        if j == patch.m {
+            break;
+        }
         lines = lines.next(scale, h);
-        new_cells += scan::mark::mark_row(lines.row(), patch.n, scale, h, mark, choice, grid);
+        j += 1;
     }
     new_cells
 }

@@ -1,16 +1,24 @@
--- `mark_samples` meets its contract: a drawable curve is a row that the walker walks.
+-- `mark_samples` meets its contract: a drawable curve is a row that the walker walks, with the choice that is told.
 use borrow.Author.Needs.{needs}
-use mathlib.Core.Path.{_≡_, sym, _∙_}
+use mathlib.Core.Path.{_≡_}
+use mathlib.Core.List.{List, map}
+use Prim.Native.Nat.{ℕ, _≤_}
+use lib.IntN.{pos}
 use lib.ListN.{length}
+use Rattle.drawing.specs.declared.Choice.{Choice}
+use Rattle.drawing.specs.Object.{scaleOf}
 use Rattle.drawing.specs.Refusals.{Drawable}
+use Rattle.drawing.specs.Drawing.{marked, drawn}
 use Rattle.drawing.proofs.Accepted.{draw-accepted}
 use denote.Ref.{now}
-use Rattle.scan.specs.Walker.{gridStrides}
-use Rattle.scan.proofs.Samples.{grid-small, row-on-grid}
+use Rattle.cubic.proofs.Fits.{read}
+use Rattle.scan.specs.Walker.{placeOf, walkers, OnGrid}
+use Rattle.scan.proofs.Samples.{grid-small}
+use Rattle.curve.specs.declared.Curve.{Curve}
 use Rattle.curve.specs.Curve.{curveOf}
 use Rattle.curve.specs.Machine.{InLimits}
 use Rattle.curve.proofs.Along.{drawable-in-limits, scale-held}
-use Rattle.curve.proofs.Begin.{start-at, grid-row, drawn-row}
+use Rattle.curve.proofs.Begin.{room-for-row, row-marks}
 use Rattle.curve.proofs.samples.mark_samples.Statement.{statement}
 use Rattle.curve.proofs.samples.mark_samples.Tie as tie
 
@@ -35,29 +43,66 @@ start-walker-requires c κs =
 cubed-requires : tie.Need-cubed-requires
 cubed-requires c κs = limits (c .before .before .before) .count-most
 
+-- What a row asks for, and what it leaves.
+module _ (b : tie.After-cubed) where
+  abbrev s : tie.Start
+  s = b .before .before .before .before
+
+  abbrev curve : Curve
+  curve = s .args .curve
+
+  scale-is : read (b .cubed .result) ≡ pos (scaleOf (curveOf curve))
+  scale-is = scale-held (limits s) (b .cubed .ensures) .same
+
+  asked :
+      OnGrid (curve .steps) (read (b .cubed .result)) (b .before .before .grid-strides .result) (b .before .start-walker .result)
+      (length (now (s .args .grid))) × ((curve .steps ≤ 512) × (1 ≤ curve .mark))
+  asked =
+      let w = draw-accepted (s .args .side) (curveOf curve) _ .0 (s .pre) in (
+        room-for-row curve (twelve s) (drawable s) scale-is (b .before .before .grid-strides .ensures)
+            (b .before .start-walker .ensures) (w .1),
+        (limits s .count-most, w .2),
+      )
+
+  left : {k : Choice} {after : List ℕ} → curve .choice ≡ k →
+      after ≡
+      marked k (curve .mark)
+      (map placeOf (walkers (curve .steps) (read (b .cubed .result)) (b .before .before .grid-strides .result)
+      (b .before .start-walker .result))) (now (s .args .grid)) →
+      after ≡ drawn (s .args .side) (curveOf curve) (now (s .args .grid))
+  left =
+      row-marks curve (twelve s) (drawable s) scale-is (b .before .before .grid-strides .ensures)
+      (b .before .start-walker .ensures) (now (s .args .grid)) (s .pre)
+
+enum-told : tie.Need-enum-told
+enum-told c = search needs
+
 mark-row-requires : tie.Need-mark-row-requires
-mark-row-requires c κs =
-    let b = c .before in
-    let s = b .before .before .before .before in
-    let w = draw-accepted (s .args .side) (curveOf (s .args .curve)) _ .0 (s .pre) in (
-      rw (scale-held (limits s) (b .cubed .ensures) .same, b .before .start-walker .ensures, b .before .before .grid-strides .ensures, w .1)
-          (row-on-grid (grid-row (s .args .curve) (twelve s) (drawable s)) (start-at (s .args .curve) (drawable s) (gridStrides (s .args .side)))),
-      (limits s .count-most, w .2),
-    )
+mark-row-requires c κs = asked (c .before .before .before)
+
+enum-told-2 : tie.Need-enum-told-2
+enum-told-2 c = search needs
+
+mark-row-requires-2 : tie.Need-mark-row-requires-2
+mark-row-requires-2 c κs = asked (c .before .before .before)
 
 same-length : tie.Need-same-length
 same-length c = search needs
 
 returns : tie.Need-returns
 returns c =
-    let b = c .before .before .before .before in
-    let s = b .before .before .before .before in
-    let m = c .before .before .mark-row .ensures in (
-      m .0,
-      rw (scale-held (limits s) (b .cubed .ensures) .same, b .before .start-walker .ensures, b .before .before .grid-strides .ensures)
-          at (m .1) ∙
-          sym (drawn-row (s .args .curve) (twelve s) (drawable s) (now (s .args .grid)) (s .pre)),
-    )
+    let m = c .before .before in
+    let t = m .before .before in
+    (m .mark-row .ensures .0, left (t .before .before) (t .enum-told .given .1) (m .mark-row .ensures .1))
+
+same-length-2 : tie.Need-same-length-2
+same-length-2 c = search needs
+
+returns-2 : tie.Need-returns-2
+returns-2 c =
+    let m = c .before .before in
+    let t = m .before .before in
+    (m .mark-row2 .ensures .0, left (t .before .before) (t .enum-told2 .given .1) (m .mark-row2 .ensures .1))
 
 pub mark-samples-spec : {M : Type 1} → statement M
 mark-samples-spec =
@@ -66,6 +111,11 @@ mark-samples-spec =
     grid-strides-requires
     start-walker-requires
     cubed-requires
+    enum-told
     mark-row-requires
+    enum-told-2
+    mark-row-requires-2
     same-length
-    returns)
+    returns
+    same-length-2
+    returns-2)
