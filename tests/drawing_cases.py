@@ -1,9 +1,10 @@
 """Writes the stored cases of curves and patches and their expected answers, by the separate model.
 
 `python3 tests/drawing_cases.py` writes crates/drawing_cases/stdin and stdout; with `--check` it writes nothing and exits
-with 1 if they are not what it would write; with `--count` it prints how many cases of each letter got each answer, how
-many of the curves listed from both ends have a sample exactly on a half, how many neighbours of the accepted patches
-have had their cells compared, and for how many drawings a wrong count of new cells is another number.  The forms of both
+with 1 if they are not what it would write; with `--count` it prints how many cases of each letter and choice got each
+answer, how many accepted drawings had all, some or none of their cells unmarked, how many of the curves listed from both
+ends have a sample exactly on a half, how many neighbours of the accepted patches have had their cells compared, and for
+how many drawings a wrong count of new cells is another number or a wrong drawing leaves another grid.  The forms of both
 are described in crates/drawing_cases/src.
 """
 
@@ -13,13 +14,15 @@ from collections import Counter
 from itertools import combinations, permutations, product
 
 from model import (
-    CHESSBOARD, HALVES_IN_BOTH_ROWS, K1_TO_K11, WRONG_COUNTS, Answer, cells, cells_with_halves_to_even,
-    cells_with_halves_up, counted, curve, distances_line, draw, drawing_refusal, from_other_end, grid_of_points,
-    list_curve, neighbour_distances, new_places, on_axis, patch, place, samples,
+    CHESSBOARD, HALVES_IN_BOTH_ROWS, K1_TO_K11, OVER, UNDER, WRONG_WAYS, Answer, broken_laws, cells,
+    cells_with_halves_to_even, cells_with_halves_up, curve, demand_3, distances_line, draw, drawing_refusal,
+    from_other_end, grid_of_points, list_curve, neighbour_distances, on_axis, patch, place, places, row, run, samples,
+    told_apart, unmarked, with_other_choice,
 )  # fmt: skip
 from stored import answer_record, case_record, malformed, store
 
-NUMBERS, ANSWERS = 21, 5  # in a case, in an answer
+NUMBERS, ANSWERS = 22, 5  # in a case, in an answer
+CHOICES = OVER, UNDER
 BUFFER = 262144
 LONGEST_LIST = 1539
 PRIMES = 99999989, 99999959
@@ -77,7 +80,8 @@ class Cases:
         self.answered = Counter()
         self.halves = Counter()  # the accepted curves listed from both ends, by where they have a sample on a half
         self.distances = Counter()  # of the cells of neighbours in accepted patches
-        self.miscounted = Counter()  # the accepted drawings, by the wrong ways to count that give another number
+        self.unmarked = Counter()  # the accepted drawings, by letter, choice and which of their cells were unmarked
+        self.told = Counter()  # the accepted drawings, by the wrong ways that give another number or grid
 
     def add(self, letter, numbers, answer, kind, form="d"):
         """One case with its answer."""
@@ -97,23 +101,31 @@ class Cases:
         numbers = [int.from_bytes(shown[k : k + 4], "big") for k in range(0, 16, 4)]
         self.add("S", (place, stride), ("S", numbers), "shown", "x")
 
-    def call(self, letter, side, record, length=None):
-        """A call that is lent the first bytes of the buffer, by default as many as it asks for; its answer."""
+    def call(self, letter, side, record, length=None, under=1):
+        """A call that is lent the first bytes of the buffer, by default as many as it asks for; its answer.
+
+        Under is stored as the given number, any but 0.
+        """
         n, *m = record.counts
         length = right_length(letter, side, n) if length is None else length
         lent = bytes(self.buffer[:length])
         answer = CALLS[letter](side, record, lent)
         self.buffer[:length] = answer.lent
         points = zip(*(record.coordinates[axis::3] for axis in range(3)))
-        numbers = (side, n, record.mark, length, *(m or (0,)), *(x << 16 | y << 8 | z for x, y, z in points))
+        choice = 0 if record.choice == OVER else under
+        numbers = (side, n, record.mark, length, *(m or (0,)), choice, *(x << 16 | y << 8 | z for x, y, z in points))
         drawn = letter in DRAWINGS and answer.refusal is None
         said = ("A", answer.count) if answer.refusal is None else ("R", answer.refusal)
         held = answer.new if drawn else 0, *holding(answer.lent)
-        self.add(letter, numbers, (said[0], (said[1], *held)), answer.refusal or "accepted")
+        self.add(letter, numbers, (said[0], (said[1], *held)), f"{record.choice} {answer.refusal or 'accepted'}")
+        if letter in DRAWINGS:
+            assert not broken_laws(side, record, lent, answer), record
+        else:
+            assert CALLS[letter](side, with_other_choice(record), lent) == answer, record
         if drawn:
-            assert answer.new == len(new_places(side, record, lent)), record
-            wrong = {way: counted(side, record, lent, is_new) for way, is_new in WRONG_COUNTS.items()}
-            self.miscounted.update(way for way, count in wrong.items() if count != answer.new)
+            kind = "none" if answer.new == 0 else "all" if answer.new == len(places(side, record)) else "some"
+            self.unmarked[letter, record.choice, kind] += 1
+            self.told.update(told_apart(side, record, lent, answer))
         if letter == "E" and answer.refusal is None:
             found = {*halves(record)}
             self.halves.update(found | ({("any axis", "any way")} if found else set()))
@@ -184,10 +196,10 @@ PATCH_FAULTS = {**FAULTS, 13: ({"n": 257}, {"m": 0})}
 PATCH_ORDERS = {"P": ORDERS["D"], "Q": ORDERS["C"]}
 
 
-def call_with_faults(cases, letter, faults, record_of, numbers, way=0):
+def call_with_faults(cases, letter, faults, record_of, choice, numbers, way=0):
     """A call with the faults of some numbers, given in their order: the first is answered; its answer."""
     length = 512 if right_length(letter, 8, 1) else 0
-    call = {"side": 8, "n": 1, "m": 1, "mark": MARK, "x": 0, "z": 0, "length": length}
+    call = {"side": 8, "n": 1, "m": 1, "mark": MARK, "choice": choice, "x": 0, "z": 0, "length": length}
     for number in numbers:
         call.update(faults[number][way])
     answer = cases.call(letter, call["side"], record_of(call), call["length"])
@@ -196,22 +208,25 @@ def call_with_faults(cases, letter, faults, record_of, numbers, way=0):
 
 
 def refusals(cases, orders, faults, record_of):
-    """Each call with every choice of up to three faults and with all: the first of the order is answered."""
+    """Each call with up to three of the faults and with all, over in the one way and under in the other.
+
+    The first of the order is answered.
+    """
     cases.fill(BUFFER, 1, 1)
     for letter, order in orders.items():
         for way, size in product(range(2), (0, 1, 2, 3, len(order))):
             for numbers in combinations(order, size):
-                call_with_faults(cases, letter, faults, record_of, numbers, way)
+                call_with_faults(cases, letter, faults, record_of, CHOICES[way], numbers, way)
 
 
 def faulty_curve(call):
     """A curve that stays in cell 0 but for the coordinates of its last point."""
-    return curve([0] * 9 + [call["x"], 0, call["z"]], call["n"], call["mark"])
+    return curve([0] * 9 + [call["x"], 0, call["z"]], call["n"], call["mark"], call["choice"])
 
 
 def faulty_patch(call):
     """The same of a patch."""
-    return patch([0] * 45 + [call["x"], 0, call["z"]], call["n"], call["m"], call["mark"])
+    return patch([0] * 45 + [call["x"], 0, call["z"]], call["n"], call["m"], call["mark"], call["choice"])
 
 
 def ties(cases):
@@ -346,14 +361,14 @@ def random_patch(dice, side):
 
 
 def random_record(dice, letter, side):
-    """The points, counts and mark of a random curve or patch."""
+    """The points, counts, mark and choice of a random curve or patch."""
     points, *counts, mark = random_patch(dice, side) if letter in ON_PATCHES else random_curve(dice, side)
-    return points, counts, mark
+    return points, counts, mark, dice.choice(CHOICES)
 
 
 def random_call(cases, dice, letter, side):
     """A call of a random object, in about every seventh case with a fault, which the call may be free to ignore."""
-    points, counts, mark = random_record(dice, letter, side)
+    points, counts, mark, choice = random_record(dice, letter, side)
     length = right_length(letter, side, counts[0]) + (dice.choice((0, 0, 1, 7)) if letter in "LE" else 0)
     fault = dice.randrange(42)
     which = dice.randrange(len(counts))
@@ -370,14 +385,17 @@ def random_call(cases, dice, letter, side):
     if fault == 5:
         counts[which] = max(1, counts[which] // 3)
     make = patch if letter in ON_PATCHES else curve
-    cases.call(letter, side, make(points, *counts, mark), min(length, LONGEST_LIST if letter == "E" else BUFFER))
+    length = min(length, LONGEST_LIST if letter == "E" else BUFFER)
+    cases.call(letter, side, make(points, *counts, mark, choice), length)
 
 
 def random_calls(cases, dice):
-    """At every side: drawings one over another in grids that hold bytes, listings, and checks."""
+    """At every side and of both choices: drawings in turn into empty, partly marked and any grids, listings, checks."""
     for group in range(4 * 63):
-        side = 2 + group % 63
-        cases.fill(side**3, *((0, 0) if group % 4 == 0 else (dice.randrange(256), dice.randrange(256))))
+        side, step = 2 + group % 63, dice.choice((16, 32, 64, 128))
+        partly = step * dice.randrange(256), step  # one byte in 16, 8, 4 or 2 is 0
+        fillings = (0, 0), partly, (dice.randrange(256), dice.randrange(256)), partly
+        cases.fill(side**3, *fillings[group % 4])
         for letter in "DDPDDPD":
             random_call(cases, dice, letter, side)
         cases.show(dice.randrange(side**3))
@@ -386,13 +404,13 @@ def random_calls(cases, dice):
 
 
 def with_a_half(dice, side):
-    """A curve of a few steps that fit, some sample of which lies on a half."""
+    """A curve of either choice and a few steps that fit, some sample of which lies on a half."""
     while True:
         spread = dice.randrange(1, min(side, 12))
         low = [dice.randrange(side - spread) for _ in range(3)]
         points = [low[k % 3] + dice.choice((0, spread, dice.randrange(spread + 1))) for k in range(12)]
         gap = max(abs(points[k] - points[k + 3]) for k in range(9))
-        record = curve(points, 2 * dice.randrange(3 * gap // 2 + 1, 3 * gap + 4), MARK)
+        record = curve(points, 2 * dice.randrange(3 * gap // 2 + 1, 3 * gap + 4), MARK, dice.choice(CHOICES))
         if any(halves(record)):
             return record
 
@@ -422,6 +440,8 @@ def both_ends(cases, dice):
         cases.call("E", side, with_a_half(dice, side))
         random_call(cases, dice, "E", side)
     listed = sum(count for (letter, _), count in cases.answered.items() if letter == "E")
+    for choice in CHOICES:
+        assert cases.answered["E", f"{choice} accepted"] >= 900, cases.answered
     assert listed >= 2400 and cases.halves["any axis", "any way"] >= 1000, (listed, cases.halves)
     assert all(cases.halves[axis, way] >= 250 for axis, way in product("xyz", ("rising", "falling"))), cases.halves
 
@@ -442,78 +462,146 @@ def plane(axis, at, low=(0, 0), high=(7, 7), mark=MARK):
     return patch(grid_of_points(coordinate), n, m, mark)
 
 
-def draw_in_turn(cases, side, *drawings):
-    """Drawings one over another, each with the number of its new cells."""
+def draw_in_turn(cases, side, choice, *drawings):
+    """Drawings of one choice, one over or under another, each with the number of its new cells."""
     for record, new in drawings:
-        answer = cases.call("D" if len(record.counts) == 1 else "P", side, record)
+        answer = cases.call("D" if len(record.counts) == 1 else "P", side, record._replace(choice=choice))
         assert (answer.refusal, answer.new) == (None, new), (record, answer[:3])
 
 
-def new_over_drawings(cases):
-    """From an empty grid: over itself and from its other end, across, one cell in many steps, planes and lines."""
+def comes_back(record):
+    """Whether a curve comes back to a cell that it has left."""
+    path = row(cells(record))
+    entered = [cell for k, cell in enumerate(path) if k == 0 or path[k - 1] != cell]
+    return len({*entered}) < len(entered)
+
+
+LOOP = curve((3, 0, 4, 7, 7, 4, 0, 7, 4, 4, 0, 4), 40, MARK)
+THERE_AND_BACK = curve(on_axis(1, (0, 3, 3, 0)), 9, MARK)
+
+
+def into_empty(cases, choice):
+    """From an empty grid: again, from the other end, across, one cell in many steps, planes and lines, loops."""
     for axis in range(3):
         others = [a for a in range(3) if a != axis]
         start, end = ([c if a == axis else 3 for a in range(3)] for c in (0, 7))
         across = [line(*([c if a == other else 3 for a in range(3)] for c in (0, 7))) for other in others]
         cases.fill(512)
         draw_in_turn(
-            cases, 8, (line(start, end, 9), 8), (line(start, end, 9), 0), (line(start, end, 255), 0),
+            cases, 8, choice, (line(start, end, 9), 8), (line(start, end, 9), 0), (line(start, end, 255), 0),
             (line(end, start, 1), 0), (across[0], 7), (across[1], 7), (line((0, 0, 0), (7, 7, 7)), 7),
             (line((7, 0, 7), (7, 0, 7), 5, 512), 1), (line((7, 0, 7), (7, 0, 7), 6, 512), 0),
         )  # fmt: skip
         cases.fill(512)
         draw_in_turn(
-            cases, 8, (line(start, end), 8), (plane(others[0], 3), 56), (plane(others[1], 3), 56),
+            cases, 8, choice, (line(start, end), 8), (plane(others[0], 3), 56), (plane(others[1], 3), 56),
             (plane(others[1], 3, mark=9), 0), (line(end, start, 7), 0), (line((0, 0, 0), (0, 0, 0), 3, 512), 1),
             (plane(0, 0, (0, 0), (0, 0), 4), 0), (plane(axis, 3), 49),
         )  # fmt: skip
-    loop = curve((3, 0, 4, 7, 7, 4, 0, 7, 4, 4, 0, 4), 40, MARK)
-    there_and_back = curve(on_axis(1, (0, 3, 3, 0)), 9, MARK)
     one_line = patch(grid_of_points(lambda i, j: (7, (0, 0, 7, 7)[i], 0)), 21, 5, MARK)
+    assert comes_back(LOOP) and comes_back(THERE_AND_BACK)
     cases.fill(512)
-    draw_in_turn(cases, 8, (loop, len({*cells(loop).values()})), (there_and_back, 3), (one_line, 8), (one_line, 0))
+    loops = (LOOP, len(places(8, LOOP))), (THERE_AND_BACK, 3)
+    draw_in_turn(cases, 8, choice, *loops, (one_line, 8), (one_line, 0))
 
 
-def new_over_bytes(cases):
+def into_bytes(cases, choice):
     """Into grids full of marks, with a mark at every second byte, and with all cells but one marked."""
     for held in MARK, 255:
         cases.fill(512, held)
         one_cell = line((1, 2, 3), (1, 2, 3), 255, 512)
-        draw_in_turn(cases, 8, (line((0, 0, 0), (7, 7, 7)), 0), (plane(2, 5), 0), (one_cell, 0))
+        draw_in_turn(cases, 8, choice, (line((0, 0, 0), (7, 7, 7)), 0), (plane(2, 5), 0), (one_cell, 0))
     for first, odd in (0, 0), (128, 1):
         cases.fill(512, first, 128)
         along_y = line((2, 0, 0), (2, 7, 0))
-        draw_in_turn(cases, 8, (line((0, 1, 1), (7, 1, 1), 128), 4), (along_y, 8 - 8 * odd), (plane(2, 7), 32))
+        draw_in_turn(cases, 8, choice, (line((0, 1, 1), (7, 1, 1), 128), 4), (along_y, 8 - 8 * odd), (plane(2, 7), 32))
+        draw_in_turn(cases, 8, choice, (LOOP, len([at for at in places(8, LOOP) if at % 2 == odd])))
         cases.fill(125, first, 128)
-        draw_in_turn(cases, 5, (line((0, 0, 0), (4, 0, 0)), 3 - odd), (plane(2, 2, high=(4, 4)), 13 - odd))
+        draw_in_turn(cases, 5, choice, (line((0, 0, 0), (4, 0, 0)), 3 - odd), (plane(2, 2, high=(4, 4)), 13 - odd))
     for record in (
         line((0, 3, 1), (5, 3, 1)), line((2, 3, 1), (5, 3, 1)), line((5, 3, 1), (2, 3, 1)), line((2, 3, 1), (2, 3, 1), 56),
         plane(2, 1, high=(5, 5)), plane(2, 1, (2, 0), (5, 5)), plane(2, 1, (0, 0), (2, 3)), plane(0, 2, (3, 1), (5, 4)),
     ):  # fmt: skip
         cases.fill(216, 200, 1)  # byte 56, of cell (2, 3, 1), becomes 0, and no other
-        draw_in_turn(cases, 6, (record, 1))
+        draw_in_turn(cases, 6, choice, (record, 1))
 
 
-def new_refused(cases):
+def refused_from_empty(cases, choice):
     """Each number refuses a drawing into an empty grid, which stays empty: the drawing without a fault finds it so."""
     for letter, faults, record_of in ("D", FAULTS, faulty_curve), ("P", PATCH_FAULTS, faulty_patch):
         cases.fill(512)
         for number in ORDERS["D"]:
-            assert call_with_faults(cases, letter, faults, record_of, [number]).new is None
-        assert call_with_faults(cases, letter, faults, record_of, []).new == 1
+            assert call_with_faults(cases, letter, faults, record_of, choice, [number]).new is None
+        assert call_with_faults(cases, letter, faults, record_of, choice, []).new == 1
 
 
-def new_in_large_cubes(cases, dice):
-    """Two planes of the largest cube; and random drawings, whose new cells add up to the marked ones."""
+def planes_of_the_largest_cube(cases, choice):
+    """Two planes that share a line."""
     cases.fill(BUFFER)
-    draw_in_turn(cases, 64, (plane(2, 63, high=(63, 63)), 4096), (plane(0, 63, high=(63, 63)), 4032))
-    side, new = 17, 0
-    cases.fill(side**3)
-    for letter in "DPDDPDDPDDPD":
-        points, counts, mark = random_record(dice, letter, side)
-        answer = cases.call(letter, side, (patch if letter in ON_PATCHES else curve)(points, *counts, mark))
-        new += answer.new or 0
-    assert new == side**3 - answer.lent.count(0) >= 100, new
+    draw_in_turn(cases, 64, choice, (plane(2, 63, high=(63, 63)), 4096), (plane(0, 63, high=(63, 63)), 4032))
+
+
+def held_and_drawn(cases):
+    """A line and a plane of mark 130, of both choices, where bytes are 0, smaller, equal and larger; the plane shown."""
+    fillings = (0, 0), (130, 0), (200, 0), (0, 128), (128, 128), (0, 65), (253, 1)
+    for (first, step), choice in product(fillings, CHOICES):
+        for record in line((0, 1, 0), (3, 1, 0), 130), plane(2, 0, high=(3, 3), mark=130):
+            cases.fill(64, first, step)
+            held = bytes(cases.buffer[:16])
+            draw_in_turn(cases, 4, choice, (record, sum(held[at] == 0 for at in places(4, record))))
+            drawn = range(4, 8) if len(record.counts) == 1 else range(16)
+            kept = [at not in drawn or choice == UNDER and held[at] > 0 for at in range(16)]
+            assert bytes(cases.buffer[:16]) == bytes(held[at] if kept[at] else 130 for at in range(16))
+            cases.show()
+
+
+def shared_cells(cases):
+    """Two drawings in turn, lines and planes, by every two choices: the cells of both hold the mark of the upper one."""
+    along_x, along_y = line((0, 1, 1), (3, 1, 1), 9), line((1, 0, 1), (1, 3, 1), 8)
+    across_z, across_x = plane(2, 1, high=(3, 3), mark=7), plane(0, 1, high=(3, 3), mark=250)
+    for first, second in (along_x, along_y), (along_x, across_z), (across_z, along_y), (across_x, across_z):
+        both = places(4, first) & places(4, second)
+        for choices in product(CHOICES, repeat=2):
+            cases.fill(64)
+            draw_in_turn(cases, 4, choices[0], (first, len(places(4, first))))
+            draw_in_turn(cases, 4, choices[1], (second, len(places(4, second) - both)))
+            upper = second if choices[1] == OVER else first
+            assert {cases.buffer[at] for at in both} == {upper.mark}
+            cases.show(16)
+
+
+def mixed_lists(cases, dice):
+    """Lists of drawings of both choices, from empty, partly marked and full cubes: demand 3, and new cells add up."""
+    for side, first, step in (2, 0, 0), (5, 0, 128), (9, 0, 0), (17, 0, 0), (12, 0, 32), (7, 200, 0), (33, 64, 64):
+        cases.fill(side**3, first, step)
+        start, new, calls = bytes(cases.buffer[: side**3]), 0, []
+        for letter in "DPDDPDDP":
+            points, counts, mark, choice = random_record(dice, letter, side)
+            record = (patch if letter in ON_PATCHES else curve)(points, *counts, mark, choice)
+            calls.append((side, record))
+            new += cases.call(letter, side, record).new or 0
+        grids = run(calls, start)
+        assert grids[-1] == cases.buffer[: side**3] and demand_3(calls, grids)
+        assert new == unmarked(start) - unmarked(grids[-1])
+        assert grids[-1] != run([(side, with_other_choice(record)) for _, record in calls], start)[-1]
+
+
+def choice_ignored(cases):
+    """K1 to K11 and K12 listed, listed from both ends and checked, under."""
+    cases.fill(LONGEST_LIST, 31, 7)
+    for k, (_, points, n, _, refusal) in enumerate(K1_TO_K11):
+        for letter in "LEC":
+            assert cases.call(letter, 8, curve(on_axis(k % 3, points), n, MARK, UNDER)).refusal == refusal
+    k12 = patch(grid_of_points(lambda i, j: (i + j, 0, 0)), 4, 4, MARK, UNDER)
+    assert cases.call("Q", 8, k12).refusal is None
+
+
+def under_by_other_numbers(cases):
+    """Any number but 0 is under."""
+    for under in 2, 255, 256, 65536, LARGEST:
+        cases.fill(8, 0, 128)
+        answer = cases.call("D", 2, line((0, 0, 0), (1, 0, 0), 7)._replace(choice=UNDER), under=under)
+        assert answer.lent[:2] == bytes([7, 128])
 
 
 def no_cases(cases):
@@ -538,20 +626,32 @@ def main():
     refusals(cases, PATCH_ORDERS, PATCH_FAULTS, faulty_patch)
     random_calls(cases, random.Random(2))
     both_ends(cases, random.Random(3))
-    for part in new_over_drawings, new_over_bytes, new_refused:
+    for choice in CHOICES:
+        for part in into_empty, into_bytes, refused_from_empty, planes_of_the_largest_cube:
+            part(cases, choice)
+    for part in held_and_drawn, shared_cells, choice_ignored, under_by_other_numbers:
         part(cases)
-    new_in_large_cubes(cases, random.Random(4))
+    mixed_lists(cases, random.Random(4))
     no_cases(cases)
     assert all(distance <= 1 for _, distance in cases.distances), cases.distances
-    assert all(cases.miscounted[way] > 500 for way in WRONG_COUNTS), cases.miscounted
+    kinds = product(DRAWINGS, CHOICES, ("all", "some", "none"))
+    assert all(cases.unmarked[kind] >= 30 for kind in kinds), cases.unmarked
+    assert all(cases.told[way] >= 300 for way in WRONG_WAYS), cases.told
     if "--count" in sys.argv[1:]:
         for (letter, kind), count in sorted(cases.answered.items(), key=str):
             print(letter, kind, count)
+        for (letter, choice, kind), count in sorted(cases.unmarked.items()):
+            print(f"{letter} {choice} accepted, cells unmarked before: {kind}", count)
         for (axis, way), count in sorted(cases.halves.items()):
             print("E accepted, a sample on a half:", axis, way, count)
         print(distances_line(cases.distances))
-        for way in WRONG_COUNTS:
-            print(f"new cells counted wrongly, {way}: another number for", cases.miscounted[way], "drawings")
+        for choice, what, way in WRONG_WAYS:
+            count = cases.told[choice, what, way]
+            if what == "counts":
+                print(f"{choice}, new cells counted wrongly, {way}: another number for {count} drawings")
+            else:
+                print(f"{choice}, drawn wrongly, {way}: another grid after {count} drawings")
+        print(len(cases.records), "records")
         return 0
     return store("drawing_cases", cases.records)
 

@@ -3,7 +3,7 @@
 Whole numbers and fractions are exact throughout; there are no differences and no remainders here.  Imported, the module
 gives the expected answers of test programs.  Run as `python3 tests/model.py`, it checks itself on the documents' samples
 and exits with 1 if a check fails.  Quoted words are document 01's, for demand 3 also the demand's own, and for cells of
-samples, neighbours, hues, totals and new cells document 02's.
+samples, neighbours, hues, totals, new cells and choices document 02's.
 """
 
 import random
@@ -12,7 +12,7 @@ import struct
 import sys
 from collections import Counter
 from fractions import Fraction
-from functools import lru_cache
+from functools import lru_cache, wraps
 from io import BytesIO
 from itertools import product
 from math import ceil, floor, prod
@@ -27,28 +27,43 @@ def place(side, cell):
     return x + side * y + side * side * z
 
 
+OVER, UNDER = "over", "under"  # the choices of a record
+
+
 class Record(NamedTuple):
     """A curve (counts (n,), 4 points) or a patch (counts (n, m), 16 points): x y z of point 0, of point 1, .."""
 
     coordinates: Tuple[int, ...]
     counts: Tuple[int, ...]
     mark: int
+    choice: str
 
 
-def curve(coordinates, n, mark):
-    """A curve: "twelve coordinates (x, y, z of points 0 to 3), with its step count n .. and its mark"."""
-    return Record(tuple(coordinates), (n,), mark)
+def curve(coordinates, n, mark, choice=OVER):
+    """A curve: "twelve coordinates (x, y, z of points 0 to 3), with its step count n .. and its mark", and a choice."""
+    return Record(tuple(coordinates), (n,), mark, choice)
 
 
-def patch(coordinates, n, m, mark):
-    """A patch: "counts n along t and m along u", "g(i, j) is its point number 4 × i + j"."""
-    return Record(tuple(coordinates), (n, m), mark)
+def patch(coordinates, n, m, mark, choice=OVER):
+    """A patch: "counts n along t and m along u", "g(i, j) is its point number 4 × i + j", and a choice."""
+    return Record(tuple(coordinates), (n, m), mark, choice)
 
 
 def from_other_end(record):
     """A curve redrawn "from its other end": its points in reverse order."""
     points = [record.coordinates[k : k + 3] for k in range(0, 12, 3)]
     return record._replace(coordinates=tuple(c for point in reversed(points) for c in point))
+
+
+def with_other_choice(record):
+    """The record with the other of "over or under"."""
+    return record._replace(choice=UNDER if record.choice == OVER else OVER)
+
+
+def of_points_and_counts(function):
+    """A function of a record's points and counts alone, its last two values kept, whatever mark and choice are."""
+    kept = lru_cache(maxsize=2)(lambda coordinates, counts: function(Record(coordinates, counts, 0, OVER)))
+    return wraps(function)(lambda record: kept(record.coordinates, record.counts))
 
 
 # Exact samples: a value is a pair (numerator, scale)
@@ -67,7 +82,7 @@ def scale(counts):
 def weights(counts, indices):
     """Each control point's weight in a sample, by point number: the product of its weights along every parameter."""
     along = (bernstein(n, i) for n, i in zip(counts, indices, strict=True))
-    return [prod(choice) for choice in product(*along)]
+    return [prod(factors) for factors in product(*along)]
 
 
 def value(counts, indices, controls):
@@ -76,7 +91,7 @@ def value(counts, indices, controls):
     return blended, scale(counts)
 
 
-@lru_cache(maxsize=2)
+@of_points_and_counts
 def samples(record):
     """The exact x, y, z of every sample of a record, by its indices (i,) or (i, j)."""
     controls = [record.coordinates[axis::3] for axis in range(3)]
@@ -102,7 +117,7 @@ def owner(exact):
     return ceil(exact - Fraction(1, 2))
 
 
-@lru_cache(maxsize=2)
+@of_points_and_counts
 def cells(record):
     """The cell of every sample, by its indices: it "depends on its value alone" (document 02, A.3)."""
     return {
@@ -121,6 +136,7 @@ def long_step(exact, following):
     return abs(exact[0] - following[0]) > exact[1]
 
 
+@of_points_and_counts
 def steps_too_long(record):
     """Whether "some two neighbouring samples lie more than one cell apart on an axis", along t or u, anywhere."""
     exact = samples(record)
@@ -180,24 +196,46 @@ def unmarked(grid):
 def draw(side, record, grid):
     """Draws a curve or a patch: "writes the mark in every sample's cell, nothing else", answers their number.
 
-    The count of new cells, which "it turned from unmarked to marked", is "the unmarked cells before minus those after".
+    Under, it "writes only cells that are unmarked at that moment".  The count of new cells, which "it turned from
+    unmarked to marked", is "the unmarked cells before minus those after".
     """
     refusal = drawing_refusal(side, record, len(grid))
     if refusal is not None:
         return DrawAnswer(refusal, None, None, bytes(grid))
     drawn = bytearray(grid)
     for cell in cells(record).values():
-        drawn[place(side, cell)] = record.mark
+        at = place(side, cell)
+        if record.choice == OVER or drawn[at] == 0:
+            drawn[at] = record.mark
     return DrawAnswer(None, prod(n + 1 for n in record.counts), unmarked(grid) - unmarked(drawn), bytes(drawn))
+
+
+def places(side, record):
+    """The places of the samples' cells."""
+    return {place(side, cell) for cell in cells(record).values()}
 
 
 def new_places(side, record, grid):
     """The places of the cells that a drawing turns from unmarked to marked: a second way to its count."""
-    return {at for at in (place(side, cell) for cell in cells(record).values()) if grid[at] == 0}
+    return {at for at in places(side, record) if grid[at] == 0}
+
+
+def held_after(record, byte):
+    """What one of the samples' cells holds after a drawing: the mark or, under, the mark that it held."""
+    return byte if record.choice == UNDER and byte != 0 else record.mark
+
+
+def left_as_drawn(side, record, before, after):
+    """Whether a drawing leaves this grid, said of each cell instead of each sample: a second way to its bytes."""
+    drawn = places(side, record)
+    others = bytearray(after)
+    for at in drawn:
+        others[at] = before[at]
+    return others == before and all(after[at] == held_after(record, before[at]) for at in drawn)
 
 
 def listing_refusal(side, record, list_length):
-    """The same order, where "a listing has no grid and ignores the record's mark"."""
+    """The same order, where "a listing has no grid and ignores the record's mark", and "ignores the choice"."""
     return first_refusal(
         (11, lambda: not 2 <= side <= 64),
         (13, lambda: count_out_of_range(record)),
@@ -403,9 +441,9 @@ def wrong_length(line, fields):
 
 
 def line_curve(line):
-    """The curve of a line "mark, n, then x y z of points 0 to 3"."""
+    """The curve of a line "mark, n, then x y z of points 0 to 3"; "sheets always mean over"."""
     mark, n, *coordinates = read_line(line)
-    return curve(coordinates, n, mark)
+    return curve(coordinates, n, mark, OVER)
 
 
 def side_line_refusal(line):
@@ -536,9 +574,13 @@ def samples_within_half(record, found):
     return all(all(map(within_half, exact, found[indices])) for indices, exact in samples(record).items())
 
 
-def cells_hold_mark(side, record, found, grid):
-    """Whether "every one of its exact samples has its cell .. holding its mark"."""
-    return all(grid[place(side, found[indices])] == record.mark for indices in samples(record))
+def cells_marked(side, record, found, before, after):
+    """Whether "every one of its exact samples has its cell .. holding its mark" or, after "an under stroke", marked.
+
+    Then "its mark may be an earlier one", and is so where the cell was marked before; elsewhere it is the stroke's.
+    """
+    found_at = [place(side, found[indices]) for indices in samples(record)]
+    return all(after[at] == held_after(record, before[at]) != 0 for at in found_at)
 
 
 def neighbour_distances(record, found):
@@ -587,12 +629,12 @@ def marks_explained(calls, start, end):
 
 def demand_3(calls, grids, cells_of=cells):
     """All of demand 3 for these calls and grids (`run` gives the model's own), by the cells of `cells_of`."""
-    for (side, record), grid in zip(calls, grids[1:], strict=True):
-        if drawing_refusal(side, record, len(grid)) is None:
+    for (side, record), before, after in zip(calls, grids[:-1], grids[1:], strict=True):
+        if drawing_refusal(side, record, len(before)) is None:
             found = cells_of(record)
             if not (
                 samples_within_half(record, found)
-                and cells_hold_mark(side, record, found, grid)
+                and cells_marked(side, record, found, before, after)
                 and neighbours_adjacent(record, found)
             ):
                 return False
@@ -618,11 +660,9 @@ class Checks:
             print(f"FAILED {group}: {label}: found {found!r}, expected {expected!r}")
 
     def draw(self, group, side, record, grid):
-        """A drawing; if accepted, its new cells are counted in other ways, and a patch's neighbours compared."""
+        """A drawing, held to the laws of its choice; if it is an accepted patch, its neighbours are compared."""
         answer = draw(side, record, grid)
-        if answer.refusal is None:
-            ways = len(new_places(side, record, grid)), counted(side, record, grid)
-            self.equal(group, f"new cells of {record}", ways, (answer.new, answer.new))
+        self.equal(group, f"laws of {record}", broken_laws(side, record, grid, answer), [])
         if answer.refusal is None and len(record.counts) == 2:
             found = neighbour_distances(record, cells(record))
             self.distances.update(found)
@@ -702,21 +742,89 @@ def cells_with_halves_up(record):
     return cells_with_halves(record, lambda exact: floor(exact + Fraction(1, 2)))
 
 
-def counted(side, record, grid, is_new=lambda byte, mark, i: byte == 0):
-    """The new cells counted as they are written, row by row, by what a byte is before sample i of its row is written."""
-    held, count = bytearray(grid), 0
-    for indices, cell in sorted(cells(record).items(), key=lambda sample: sample[0][::-1]):
-        at = place(side, cell)
-        count += is_new(held[at], record.mark, indices[0])
-        held[at] = record.mark
-    return count
+def row_by_row(record):
+    """The indices of all samples, along t in each row in turn."""
+    return sorted(cells(record), key=lambda indices: indices[::-1])
+
+
+def sample_by_sample(side, record, grid, order, is_new=None, writes=None):
+    """New cells, counted as they are written, and the grid after a drawing that meets its samples in some order.
+
+    A rule for new cells goes by the byte before the drawing, the byte when sample i of its row is met, the mark and i; a
+    rule for writing by the byte when the sample is met, and the mark.
+    """
+    is_new = is_new or (lambda before, byte, mark, i: byte == 0)
+    writes = writes or (lambda byte, mark: record.choice == OVER or byte == 0)
+    found, held, new = cells(record), bytearray(grid), 0
+    for indices in order:
+        at = place(side, found[indices])
+        new += is_new(grid[at], held[at], record.mark, indices[0])
+        if writes(held[at], record.mark):
+            held[at] = record.mark
+    return new, bytes(held)
 
 
 WRONG_COUNTS = {  # what a program may take for a new cell
-    "every sample": lambda byte, mark, i: True,
-    "another mark too": lambda byte, mark, i: byte != mark,
-    "all but the first of a row": lambda byte, mark, i: byte == 0 and i > 0,
+    "every sample": lambda before, byte, mark, i: True,
+    "another mark too": lambda before, byte, mark, i: byte != mark,
+    "all but the first of a row": lambda before, byte, mark, i: byte == 0 and i > 0,
+    "a cell at each of its samples": lambda before, byte, mark, i: before == 0,
+    "marked cells": lambda before, byte, mark, i: byte != 0,
 }
+WRONG_DRAWINGS = {  # by choice, where a program may write the mark
+    OVER: {"under": lambda byte, mark: byte == 0},
+    UNDER: {
+        "over": lambda byte, mark: True,  # to write where the byte is not the mark leaves the same grid
+        "over smaller marks": lambda byte, mark: byte < mark,
+        "over its own mark alone": lambda byte, mark: byte == mark,
+    },
+}
+
+
+def wrong_counts(side, record, grid):
+    """The number that each wrong way to count gives for a drawing."""
+    order = row_by_row(record)
+    return {way: sample_by_sample(side, record, grid, order, is_new)[0] for way, is_new in WRONG_COUNTS.items()}
+
+
+def wrong_grids(side, record, grid):
+    """The grid that each wrong way to draw a record of its choice leaves."""
+    order, ways = row_by_row(record), WRONG_DRAWINGS[record.choice]
+    return {way: sample_by_sample(side, record, grid, order, writes=writes)[1] for way, writes in ways.items()}
+
+
+WRONG_WAYS = [
+    (choice, what, way)
+    for choice, ways in WRONG_DRAWINGS.items()
+    for what, way in (*product(["counts"], WRONG_COUNTS), *product(["draws"], ways))
+]
+
+
+def told_apart(side, record, grid, answer):
+    """The wrong ways, as (choice, what, way), that give another number or grid than an accepted drawing."""
+    numbers, grids = wrong_counts(side, record, grid), wrong_grids(side, record, grid)
+    yield from ((record.choice, "counts", way) for way, new in numbers.items() if new != answer.new)
+    yield from ((record.choice, "draws", way) for way, left in grids.items() if left != answer.lent)
+
+
+def broken_laws(side, record, grid, answer):
+    """What does not hold of a drawing's answer, each said another way than the drawing itself."""
+    other = draw(side, with_other_choice(record), grid)
+    if answer.refusal is not None:
+        laws = {"a refusal ignores the choice": other == answer, "a refused call leaves the grid": answer.lent == grid}
+    else:
+        order = row_by_row(record)
+        shuffled = random.Random(answer.count).sample(order, len(order))
+        laws = {
+            "the bytes of its cells, and no others": left_as_drawn(side, record, grid, answer.lent),
+            "new cells are the places that were unmarked": answer.new == len(new_places(side, record, grid)),
+            "any order of the samples": all(
+                sample_by_sample(side, record, grid, turn) == (answer.new, answer.lent)
+                for turn in (order, order[::-1], shuffled)
+            ),
+            "as many samples and new cells by the other choice": other[:3] == answer[:3],
+        }
+    return [law for law, holds in laws.items() if not holds]
 
 
 def grid_of_points(coordinate):
@@ -1197,7 +1305,7 @@ def check_totals(checks):
 
 
 def check_new_cells(checks):
-    """Counts of new cells, which wrong ways of counting do not give, and the sums of sheets."""
+    """Counts of new cells, which wrong ways of counting do not give; the sums of sheets, which are drawn over."""
     group = "new cells"
     line = [0, 3, 0, 2, 3, 0, 5, 3, 0, 7, 3, 0]
     across = [3, 0, 0, 3, 2, 0, 3, 5, 0, 3, 7, 0]  # 8 cells as well, of which (3, 3, 0) is in both
@@ -1205,24 +1313,30 @@ def check_new_cells(checks):
     plane = grid_of_points(lambda i, j: ((0, 2, 5, 7)[i], (0, 2, 5, 7)[j], 0))
     drawn = draw(8, curve(line, 21, 9), bytes(512)).lent
     for label, record, grid, new, wrong in (
-        ("a line", curve(line, 21, 9), bytes(512), 8, (22, 8, 7)),
-        ("over itself", curve(line, 21, 9), drawn, 0, (22, 0, 0)),
-        ("over itself, another mark", curve(line, 21, 8), drawn, 0, (22, 8, 0)),
-        ("across", curve(across, 21, 9), drawn, 7, (22, 7, 6)),
-        ("across, another mark", curve(across, 21, 8), drawn, 7, (22, 8, 6)),
-        ("a full grid", curve(line, 21, 9), bytes([255]) * 512, 0, (22, 8, 0)),
-        ("every second byte", curve(line, 21, 9), half, 4, (22, 8, 3)),
-        ("one cell", curve([5] * 12, 512, 9), bytes(512), 1, (513, 1, 0)),
-        ("there and back", curve(on_axis(1, (0, 3, 3, 0)), 9, 9), bytes(512), 3, (10, 3, 2)),
-        ("a plane", patch(plane, 21, 21, 9), bytes(512), 64, (484, 64, 56)),
-        ("a plane over the line", patch(plane, 21, 21, 9), drawn, 56, (484, 56, 49)),
-        ("a plane over every second byte", patch(plane, 21, 21, 9), half, 32, (484, 64, 24)),
-        ("one cell, a patch", patch([5] * 48, 16, 16, 9), bytes(512), 1, (289, 1, 0)),
+        ("a line", curve(line, 21, 9), bytes(512), 8, (22, 8, 7, 22, 14)),
+        ("over itself", curve(line, 21, 9), drawn, 0, (22, 0, 0, 0, 22)),
+        ("over itself, another mark", curve(line, 21, 8), drawn, 0, (22, 8, 0, 0, 22)),
+        ("under itself, another mark", curve(line, 21, 8, UNDER), drawn, 0, (22, 22, 0, 0, 22)),
+        ("across", curve(across, 21, 9), drawn, 7, (22, 7, 6, 19, 15)),
+        ("across, another mark", curve(across, 21, 8), drawn, 7, (22, 8, 6, 19, 15)),
+        ("under, across, another mark", curve(across, 21, 8, UNDER), drawn, 7, (22, 10, 6, 19, 15)),
+        ("a full grid", curve(line, 21, 9), bytes([255]) * 512, 0, (22, 8, 0, 0, 22)),
+        ("under a full grid", curve(line, 21, 9, UNDER), bytes([255]) * 512, 0, (22, 22, 0, 0, 22)),
+        ("every second byte", curve(line, 21, 9), half, 4, (22, 8, 3, 11, 18)),
+        ("under every second byte", curve(line, 21, 9, UNDER), half, 4, (22, 15, 3, 11, 18)),
+        ("one cell", curve([5] * 12, 512, 9), bytes(512), 1, (513, 1, 0, 513, 512)),
+        ("one cell, under", curve([5] * 12, 512, 9, UNDER), bytes(512), 1, (513, 1, 0, 513, 512)),
+        ("there and back", curve(on_axis(1, (0, 3, 3, 0)), 9, 9), bytes(512), 3, (10, 3, 2, 10, 7)),
+        ("a plane", patch(plane, 21, 21, 9), bytes(512), 64, (484, 64, 56, 484, 420)),
+        ("a plane over the line", patch(plane, 21, 21, 9), drawn, 56, (484, 56, 49, 418, 428)),
+        ("a plane under the line", patch(plane, 21, 21, 8, UNDER), drawn, 56, (484, 122, 49, 418, 428)),
+        ("a plane over every second byte", patch(plane, 21, 21, 9), half, 32, (484, 64, 24, 242, 452)),
+        ("one cell, a patch", patch([5] * 48, 16, 16, 9), bytes(512), 1, (289, 1, 0, 289, 288)),
     ):
         answer = checks.draw(group, 8, record, grid)
-        found = tuple(counted(8, record, grid, rule) for rule in WRONG_COUNTS.values())
+        found = wrong_counts(8, record, grid)
         checks.equal(group, label, answer[:3], (None, prod(n + 1 for n in record.counts), new))
-        checks.equal(group, f"{label}, wrong counts", found, wrong)
+        checks.equal(group, f"{label}, wrong counts", tuple(found.values()), wrong)
     for number, record in (12, curve(line, 21, 0)), (13, curve(line, 513, 9)), (15, curve(line, 1, 9)):
         checks.equal(group, f"{number}", draw(8, record, bytes(512)), DrawAnswer(number, None, None, bytes(512)))
     stroke, cell = format_line(7, 3, *on_axis(0, (0, 1, 2, 3))), format_line(9, 1, *[0] * 12)
@@ -1238,22 +1352,72 @@ def check_new_cells(checks):
             answer = checks.sheet(group, label, text, bytes([held]) * BUFFER_LENGTH)
             checks.equal(group, f"{label}, bytes {held}", answer[:5], (None, None, 4, len(strokes), new))
     dice = random.Random(8)
+    under_differs = 0
     for number in range(60):
-        side = dice.randrange(2, 41)
+        side = dice.randrange(2, 41 if number % 2 else 8)
         records = (random_record(dice, side) for _ in range(dice.randrange(1, 20)))
         strokes = [r for r in records if len(r.counts) == 1 and drawing_refusal(side, r, side**3) is None]
         text = format_line(side) + b"".join(format_line(r.mark, *r.counts, *r.coordinates) for r in strokes)
-        sums = [checks.sheet(group, f"sheet {number}", text, bytes([held]) * BUFFER_LENGTH).new for held in (0, 9)]
-        grids = run([(side, record) for record in strokes], bytes(side**3))
-        places = set().union(*(new_places(side, record, bytes(side**3)) for record in strokes))
-        checks.equal(group, f"sheet {number}, sums", sums, [len(places)] * 2)
-        checks.equal(group, f"sheet {number}, before and after", sums[0], unmarked(grids[0]) - unmarked(grids[-1]))
+        answers = [checks.sheet(group, f"sheet {number}", text, bytes([held]) * BUFFER_LENGTH) for held in (0, 9)]
+        sums = [answer.new for answer in answers]
+        over, under = (
+            run([(side, record._replace(choice=choice)) for record in strokes], bytes(side**3))[-1]
+            for choice in (OVER, UNDER)
+        )
+        marked = set().union(*(places(side, record) for record in strokes))
+        checks.equal(group, f"sheet {number}, sums", sums, [len(marked)] * 2)
+        checks.equal(group, f"sheet {number}, before and after", sums[0], side**3 - unmarked(over))
+        checks.equal(group, f"sheet {number}, over", {answer.buffer[: side**3] for answer in answers}, {over})
+        under_differs += over != under
+    checks.equal(group, f"20 sheets or more that under would change: {under_differs}", under_differs >= 20, True)
+
+
+def check_choices(checks):
+    """Over and under on the same bytes, and what wrong drawings leave; listings and refusals that ignore the choice."""
+    group = "over and under"
+    held = bytes([0, 6, 12, 9, 0, 0, 255, 1])
+    row_of_8 = on_axis(0, (0, 2, 5, 7))
+    for rest in 0, 9, 77:
+        grid = held + bytes([rest]) * 504
+        for record in curve(row_of_8, 21, 9), patch(as_patch(row_of_8), 21, 3, 9):
+            for choice, right, wrong in (
+                (OVER, [9] * 8, {"under": [9, 6, 12, 9, 9, 9, 255, 1]}),
+                (UNDER, [9, 6, 12, 9, 9, 9, 255, 1], {
+                    "over": [9] * 8,
+                    "over smaller marks": [9, 9, 12, 9, 9, 9, 255, 9],
+                    "over its own mark alone": [0, 6, 12, 9, 0, 0, 255, 1],
+                }),
+            ):  # fmt: skip
+                chosen = record._replace(choice=choice)
+                answer = checks.draw(group, 8, chosen, grid)
+                expected = DrawAnswer(None, prod(n + 1 for n in record.counts), 3, bytes(right) + grid[8:])
+                checks.equal(group, f"{choice}, the rest {rest}", answer, expected)
+                expected = {way: bytes(left) + grid[8:] for way, left in wrong.items()}
+                checks.equal(group, f"{choice}, the rest {rest}, wrongly", wrong_grids(8, chosen, grid), expected)
+    full = bytes([3]) * 512
+    for record in curve(row_of_8, 21, 9, UNDER), patch(as_patch(row_of_8), 21, 3, 9, UNDER):
+        checks.equal(group, "under a full grid", checks.draw(group, 8, record, full).lent, full)
+        again = checks.draw(group, 8, record._replace(mark=8), checks.draw(group, 8, record, bytes(512)).lent)
+        checks.equal(group, "under itself", again.lent, bytes([9] * 8 + [0] * 504))
+    line, across = on_axis(0, (0, 1, 2, 3)), [2, 0, 0, 2, 1, 0, 2, 2, 0, 2, 3, 0]  # of which (2, 0, 0) is in both
+    for first, second in product((OVER, UNDER), repeat=2):
+        grids = run([(4, curve(line, 3, 5, first)), (4, curve(across, 3, 6, second))], bytes(64))
+        shared = 6 if second == OVER else 5
+        expected = bytes([5, 5, shared, 5, 0, 0, 6, 0, 0, 0, 6, 0, 0, 0, 6, 0] + [0] * 48)
+        checks.equal(group, f"two lines, {first} and {second}", grids[-1], expected)
+    for name, points, n, _, refusal in K1_TO_K11:
+        record = curve(on_axis(1, points), n, 9, UNDER)
+        listed = list_curve(8, record, bytes([77]) * 60)
+        checks.equal(group, f"{name}, listing", listed, list_curve(8, with_other_choice(record), bytes([77]) * 60))
+        checks.equal(group, f"{name}, drawing", checks.draw(group, 8, record, bytes(512)).refusal, refusal)
+        checks.equal(group, f"{name}, the other end keeps the choice", from_other_end(record).choice, UNDER)
+    checks.equal(group, "a sheet's line", line_curve(format_line(9, 3, *line)), curve(line, 3, 9, OVER))
 
 
 def check_demand_3_can_fail(checks):
-    """Document 01's impostors and slips are seen by the checks of demand 3."""
+    """Document 01's impostors and slips are seen by the checks of demand 3, and strokes that go under wrongly."""
     group = "demand 3, impostors"
-    start = bytes([50]) * 512
+    start, full_of_9 = bytes([50]) * 512, bytes([9]) * 512
     k1, k2 = (8, curve(on_axis(0, (0, 1, 2, 3)), 3, 9)), (8, curve(on_axis(0, (0, 1, 2, 3)), 2, 9))
     k12 = (8, patch(on_axis(0, K12), 4, 4, 9))
     drawn = run([k1], start)[1]
@@ -1270,19 +1434,36 @@ def check_demand_3_can_fail(checks):
         ("drawing K2", [k2], drawn),
     ):
         checks.equal(group, label, demand_3(calls, [start, end]), False)
+    under = (8, k1[1]._replace(choice=UNDER))
+    gaps = bytes([0, 50, 0, 9]) + start[4:]
+    for label, before, after, holds in (
+        ("under marks", start, start, True),
+        ("under its own mark", full_of_9, full_of_9, True),
+        ("under, gaps filled", gaps, bytes([9, 50, 9, 9]) + start[4:], True),
+        ("under an empty grid", bytes(512), bytes([9] * 4 + [0] * 508), True),
+        ("under as over", gaps, drawn, False),
+        ("under, a gap left", gaps, bytes([9, 50, 0, 9]) + start[4:], False),
+        ("under, a gap filled with the mark beside it", gaps, bytes([9, 50, 50, 9]) + start[4:], False),
+        ("under, a mark cleared", gaps, bytes([9, 0, 9, 9]) + start[4:], False),
+        ("under, one cell past the end", bytes(512), bytes([9] * 5 + [0] * 507), False),
+        ("under, writing nothing", bytes(512), bytes(512), False),
+    ):
+        checks.equal(group, label, demand_3([under], [before, after]), holds)
+    checks.equal(group, "over as under", demand_3([k1], [gaps, bytes([9, 50, 9, 9]) + start[4:]]), False)
     slipped = cells_with_row_remainder_dropped(k12[1])
     checks.equal(group, "K12's dropped remainder, half a cell", samples_within_half(k12[1], slipped), False)
-    full = bytes([9]) * 512
-    checks.equal(
-        group, "K12's dropped remainder", demand_3([k12], [full, full], cells_with_row_remainder_dropped), False
-    )
-    halves = (8, patch(on_axis(0, K12), 3, 6, 9))
-    checks.equal(group, "halves to the lower cell", demand_3([halves], [full, full]), True)
-    checks.equal(group, "halves to the even cell", demand_3([halves], [full, full], cells_with_halves_to_even), False)
-    between_rows = (3, patch(HALVES_IN_BOTH_ROWS, 2, 1, 9))
-    full = bytes([9]) * 27
-    for rule, holds in (cells, True), (cells_with_halves_up, True), (cells_with_halves_to_even, False):
-        checks.equal(group, f"between rows, {rule.__name__}", demand_3([between_rows], [full, full], rule), holds)
+    for choice in OVER, UNDER:
+        for label, side, record, rule, holds in (
+            ("K12's dropped remainder", 8, k12[1], cells_with_row_remainder_dropped, False),
+            ("halves to the lower cell", 8, patch(on_axis(0, K12), 3, 6, 9), cells, True),
+            ("halves to the even cell", 8, patch(on_axis(0, K12), 3, 6, 9), cells_with_halves_to_even, False),
+            ("between rows, down", 3, patch(HALVES_IN_BOTH_ROWS, 2, 1, 9), cells, True),
+            ("between rows, up", 3, patch(HALVES_IN_BOTH_ROWS, 2, 1, 9), cells_with_halves_up, True),
+            ("between rows, to even", 3, patch(HALVES_IN_BOTH_ROWS, 2, 1, 9), cells_with_halves_to_even, False),
+        ):
+            grids = [bytes([9]) * side**3] * 2
+            found = demand_3([(side, record._replace(choice=choice))], grids, rule)
+            checks.equal(group, f"{label}, {choice}", found, holds)
     for label, there, holds in ("a cell left out", (4, 4, 2), False), ("cells side by side", (5, 3, 5), True):
         found = {(0,): (4, 4, 4), (1,): there}
         checks.equal(group, label, neighbours_adjacent(curve([4] * 12, 1, 9), found), holds)
@@ -1299,7 +1480,7 @@ def random_record(dice, side):
     corner = [dice.randrange(side - spread) for _ in range(3)]
     coordinates = [corner[k % 3] + dice.randrange(spread + 1) for k in range(3 * 4**parameters)]
     counts = tuple(dice.randrange(1, 3 * spread + 3) for _ in range(parameters))
-    mark = dice.randrange(1, 256)
+    mark, choice = dice.randrange(1, 256), dice.choice((OVER, UNDER))
     fault = dice.randrange(30)
     if fault == 0:
         coordinates[dice.randrange(len(coordinates))] = dice.randrange(side, 256)
@@ -1307,38 +1488,62 @@ def random_record(dice, side):
         counts = counts[1:] + (dice.choice((0, 513, 4294967295)),)
     if fault == 2:
         mark = 0
-    return Record(tuple(coordinates), counts, mark)
+    return Record(tuple(coordinates), counts, mark, choice)
+
+
+GRIDS = {  # what a byte of a random grid becomes
+    "any": bytes(range(256)),
+    "unmarked": bytes(256),
+    "half-marked": bytes(byte if byte % 2 else 0 for byte in range(256)),
+    "marked": bytes(byte or 1 for byte in range(256)),
+}
+
+
+def random_grid(dice, side):
+    """A grid of any bytes, unmarked, about half-marked, or without an unmarked cell."""
+    return dice.randbytes(side**3).translate(GRIDS[dice.choice([*GRIDS])])
 
 
 def check_random_calls(checks):
-    """Seeded lists of calls, each into one cube of any bytes: demand 3, and refused calls leave the grid."""
+    """Seeded lists of calls of both choices, each into one cube of any bytes: demand 3, and the laws of each call."""
     group = "demand 3, random calls"
     dice = random.Random(4)
-    answered = {}
+    answered, told, exchange_matters = Counter(), Counter(), 0
     for number in range(120):
         side = dice.choice((2, 3, 4, 5, 8, 13, 17, 33, 64))
         calls = []
         for _ in range(dice.randrange(13)):
             called = dice.choice((0, 1, 65, side + 1)) if dice.randrange(20) == 0 else side
             calls.append((called, random_record(dice, side)))
-        start = dice.randbytes(side**3) if dice.randrange(2) else bytes(side**3)
+        start = random_grid(dice, side)
         grids = run(calls, start)
         checks.equal(group, f"list {number}", demand_3(calls, grids), True)
         news = []
         for k, (called, record) in enumerate(calls):
             answer = checks.draw(group, called, record, grids[k])
             news.append(answer.new or 0)
-            if answer.refusal is not None:
-                checks.equal(group, f"list {number}, call {k}, grid kept", grids[k + 1], grids[k])
-            key = (len(record.counts), answer.refusal)
-            answered[key] = answered.get(key, 0) + 1
+            checks.equal(group, f"list {number}, call {k}, grid", grids[k + 1], answer.lent)
+            answered[len(record.counts), record.choice, answer.refusal] += 1
+            if answer.refusal is None:
+                told.update(told_apart(called, record, grids[k], answer))
         checks.equal(group, f"list {number}, new cells", sum(news), unmarked(start) - unmarked(grids[-1]))
-    curves = {number: count for (parameters, number), count in answered.items() if parameters == 1}
-    patches = {number: count for (parameters, number), count in answered.items() if parameters == 2}
-    checks.equal(group, "every answer occurs", set(curves) | set(patches), {None, 11, 21, 12, 13, 14, 15})
-    checks.equal(group, f"300 curves accepted or more: {curves}", curves[None] >= 300, True)
-    checks.equal(group, f"36 patches accepted or more: {patches}", patches[None] >= 36, True)
-    checks.equal(group, f"15 for curves and patches: {answered}", min(curves[15], patches[15]) >= 20, True)
+        exchanged = run([(called, with_other_choice(record)) for called, record in calls], start)[-1]
+        marked, marked_too = (grid.translate(bytes([0] + [1] * 255)) for grid in (grids[-1], exchanged))
+        checks.equal(group, f"list {number}, choices exchanged, the same cells marked", marked == marked_too, True)
+        exchange_matters += exchanged != grids[-1]
+    checks.equal(group, f"30 lists or more with other marks then: {exchange_matters}", exchange_matters >= 30, True)
+    for choice in OVER, UNDER:
+        curves, patches = (
+            {number: count for (*which, number), count in answered.items() if which == [parameters, choice]}
+            for parameters in (1, 2)
+        )
+        label = f"{choice}, curves {curves}, patches {patches}"
+        checks.equal(group, f"every answer: {label}", {*curves, *patches}, {None, 11, 21, 12, 13, 14, 15})
+        checks.equal(group, f"150 curves accepted or more: {label}", curves[None] >= 150, True)
+        checks.equal(group, f"18 patches accepted or more: {label}", patches[None] >= 18, True)
+        checks.equal(group, f"15 for curves and patches: {label}", min(curves[15], patches[15]) >= 10, True)
+    few = {way: told[way] for way in WRONG_WAYS if told[way] < 30}
+    checks.equal(group, f"wrong ways told apart by 30 calls or more: {told}", few, {})
 
 
 def self_check():
@@ -1356,6 +1561,7 @@ def self_check():
         check_sheet,
         check_totals,
         check_new_cells,
+        check_choices,
         check_demand_3_can_fail,
         check_random_calls,
     ):
