@@ -10,7 +10,7 @@ use cases::record::number;
 
 // Fills the lent bytes.
 pub(crate) fn fill(case: &[u8], lent: &mut [u8]) -> Answer
-    requires { ⌜ length (now case) ≡ 190 ⌝ }
+    requires { ⌜ length (now case) ≡ 199 ⌝ }
 {
     let first = low_byte(number(case, 0));
     let step = low_byte(number(case, 1));
@@ -20,7 +20,7 @@ pub(crate) fn fill(case: &[u8], lent: &mut [u8]) -> Answer
 
 // Shows 16 bytes, a stride apart.
 pub(crate) fn show(case: &[u8], buffer: &[u8]) -> Answer
-    requires { ⌜ length (now case) ≡ 190 ⌝ }
+    requires { ⌜ length (now case) ≡ 199 ⌝ }
 {
     let place = number(case, 0) as usize;
     let stride = number(case, 1) as usize;

@@ -8,6 +8,7 @@ use cases::bytes::low_byte;
 use cases::record::number;
 use curve::Curve;
 use decide::Verdict;
+use drawing::Choice;
 use patch::Patch;
 use scan::answer::DrawAnswer;
 use scan::answer::ListAnswer;
@@ -38,7 +39,7 @@ pub(crate) fn checked(verdict: Verdict) -> Answer {
 
 // The case's curve.
 pub(crate) fn curve_of(case: &[u8]) -> Curve
-    requires { ⌜ length (now case) ≡ 190 ⌝ }
+    requires { ⌜ length (now case) ≡ 199 ⌝ }
 {
     let mut points = [0u8; 12];
     put_points(case, &mut points);
@@ -46,12 +47,13 @@ pub(crate) fn curve_of(case: &[u8]) -> Curve
         points,
         steps: number(case, 1),
         mark: low_byte(number(case, 2)),
+        choice: choice_of(case),
     }
 }
 
 // The case's patch.
 pub(crate) fn patch_of(case: &[u8]) -> Patch
-    requires { ⌜ length (now case) ≡ 190 ⌝ }
+    requires { ⌜ length (now case) ≡ 199 ⌝ }
 {
     let mut points = [0u8; 48];
     put_points(case, &mut points);
@@ -60,18 +62,30 @@ pub(crate) fn patch_of(case: &[u8]) -> Patch
         n: number(case, 1),
         m: number(case, 4),
         mark: low_byte(number(case, 2)),
+        choice: choice_of(case),
+    }
+}
+
+// The case's choice: 0 is over, any other number under.
+fn choice_of(case: &[u8]) -> Choice
+    requires { ⌜ length (now case) ≡ 199 ⌝ }
+{
+    if number(case, 5) == 0 {
+        Choice::Over
+    } else {
+        Choice::Under
     }
 }
 
 // Reads as many coordinates as there is room for, x y z of one point after the other.
 fn put_points(case: &[u8], points: &mut [u8])
-    requires { ⌜ length (now case) ≡ 190 ⌝ }
+    requires { ⌜ length (now case) ≡ 199 ⌝ }
     requires { ⌜ length (now points) ≤ 48 ⌝ }
     ensures { λ _. ⌜ length (now (points .exit)) ≡ length (now (points .entry)) ⌝ }
 {
     let mut i = 0;
     while i < points.len() {
-        let point = number(case, 5 + i / 3);
+        let point = number(case, 6 + i / 3);
         points[i] = match i % 3 {
             0 => low_byte(point / 65536),
             1 => low_byte(point / 256),

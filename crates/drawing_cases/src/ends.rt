@@ -11,7 +11,7 @@ use cases::record::number;
 
 // Lists a curve into the lent bytes, and from its other end into bytes of its own.
 pub(crate) fn list_both(case: &[u8], lent: &mut [u8]) -> answer::Answer
-    requires { ⌜ length (now case) ≡ 190 ⌝ }
+    requires { ⌜ length (now case) ≡ 199 ⌝ }
 {
     let mut own = [0u8; 1539];
     list_beside(case, lent, &mut own)
@@ -20,7 +20,7 @@ pub(crate) fn list_both(case: &[u8], lent: &mut [u8]) -> answer::Answer
 // What the listing answered and what its list holds, or a letter of its own where the listing from the other end does
 // not agree with it.
 fn list_beside(case: &[u8], list: &mut [u8], own: &mut [u8]) -> answer::Answer
-    requires { ⌜ length (now case) ≡ 190 ⌝ }
+    requires { ⌜ length (now case) ≡ 199 ⌝ }
 {
     let count = list.len();
     if own.len() < count {

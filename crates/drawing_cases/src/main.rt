@@ -1,19 +1,20 @@
 // Runs stored cases of curves and patches: reads case records from standard input and writes an answer record for each.
 //
-//     F first step 0 length                    fills the lent bytes
-//     S place stride                           shows 16 bytes of the buffer
-//     D side steps mark length 0 points        draws a curve, the lent bytes as its grid
-//     L side steps mark length 0 points        lists a curve, the lent bytes as its list
-//     E side steps mark length 0 points        lists a curve as L does, and once more from its other end
-//     C side steps mark 0 0 points             checks a curve
-//     P side n mark length m points            draws a patch, the lent bytes as its grid
-//     Q side n mark 0 m points                 checks a patch
+//     F first step 0 length                        fills the lent bytes
+//     S place stride                               shows 16 bytes of the buffer
+//     D side steps mark length 0 choice points     draws a curve, the lent bytes as its grid
+//     L side steps mark length 0 choice points     lists a curve, the lent bytes as its list
+//     E side steps mark length 0 choice points     lists a curve as L does, and once more from its other end
+//     C side steps mark 0 0 choice points          checks a curve
+//     P side n mark length m choice points         draws a patch, the lent bytes as its grid
+//     Q side n mark 0 m choice points              checks a patch
 //
 // There is one buffer of 262144 bytes, which keeps its bytes from case to case; lent are the first of them, as many as
 // the length says. Filled byte i is first + step × i, modulo 256. Shown byte i is at place + stride × i, and 0 past the
-// end. Each point is one number, 00xxyyzz in hexadecimal digits; they begin at number 5, and there is room for 16.
-// Numbers that a case does not use are 0. From its other end a curve has its points in reverse order; its list is then
-// another one, as long as the lent bytes, which are at most 1539. The answers are
+// end. The choice is 0 for over, any other number for under. Each point is one number, 00xxyyzz in hexadecimal digits;
+// they begin at number 6, and there is room for 16. Numbers that a case does not use are 0. From its other end a curve
+// has its points in reverse order; its list is then another one, as long as the lent bytes, which are at most 1539. The
+// answers are
 //
 //     A samples new marked first second        accepted; the samples of a check are 0
 //     R number 0 marked first second           refused
@@ -25,7 +26,7 @@
 // where new is the number of the cells that a drawing turned from unmarked to marked, 0 for a listing and a check, and
 // marked, first and second say what the lent bytes hold afterwards (`answer::holding`); a check is lent none.
 //
-// A case has 21 numbers, hence 190 bytes, and an answer five, hence 47 bytes.
+// A case has 22 numbers, hence 199 bytes, and an answer five, hence 47 bytes.
 mod answer;
 mod bytes;
 mod calls;
@@ -54,16 +55,16 @@ fn main() {
 
 // Answers the next 1,024 cases, or as many as are left.
 fn answer_block(buffer: &mut [u8]) -> Progress {
-    let mut records = [0u8; 194560];
+    let mut records = [0u8; 203776];
     let mut answers = [0u8; 48128];
     answer_input(&mut records, &mut answers, buffer)
 }
 
 // Reads cases until their buffer is full or the input ends, and writes the answers.
 fn answer_input(records: &mut [u8], answers: &mut [u8], buffer: &mut [u8]) -> Progress
-    requires { ⌜ (length (now records) ≡ 194560) × (length (now answers) ≡ 48128) ⌝ }
+    requires { ⌜ (length (now records) ≡ 203776) × (length (now answers) ≡ 48128) ⌝ }
 {
-    let block = cases::block::read_records(records, 190);
+    let block = cases::block::read_records(records, 199);
     let then = block.then;
     answer_cases(records, block.count, answers, buffer);
     cases::block::write_answers(answers, block.count * 47, then)
@@ -71,13 +72,13 @@ fn answer_input(records: &mut [u8], answers: &mut [u8], buffer: &mut [u8]) -> Pr
 
 // Answers each case with the record of the same number.
 fn answer_cases(records: &[u8], count: usize, answers: &mut [u8], buffer: &mut [u8])
-    requires { ⌜ count * 190 ≤ length (now records) ⌝ }
+    requires { ⌜ count * 199 ≤ length (now records) ⌝ }
     requires { ⌜ count * 47 ≤ length (now answers) ⌝ }
     ensures { λ _. ⌜ length (now (answers .exit)) ≡ length (now (answers .entry)) ⌝ }
 {
     let mut k = 0;
     while k < count {
-        let answer = answer_case(cases::record::nth(records, k, 190), buffer);
+        let answer = answer_case(cases::record::nth(records, k, 199), buffer);
         let numbers = answer.numbers;
         cases::answer::put_answer(answer.letter, answer.hexadecimal, &numbers, answers, k * 47);
         k += 1;
@@ -86,7 +87,7 @@ fn answer_cases(records: &[u8], count: usize, answers: &mut [u8], buffer: &mut [
 
 // The answer to one case.
 fn answer_case(case: &[u8], buffer: &mut [u8]) -> Answer
-    requires { ⌜ length (now case) ≡ 190 ⌝ }
+    requires { ⌜ length (now case) ≡ 199 ⌝ }
 {
     if !cases::record::is_case(case) {
         return answer::none();
@@ -102,7 +103,7 @@ fn answer_case(case: &[u8], buffer: &mut [u8]) -> Answer
 
 // The answer to a case that is lent bytes of the buffer.
 fn answer_lent(case: &[u8], buffer: &mut [u8]) -> Answer
-    requires { ⌜ length (now case) ≡ 190 ⌝ }
+    requires { ⌜ length (now case) ≡ 199 ⌝ }
 {
     let count = number(case, 3) as usize;
     if buffer.len() < count {

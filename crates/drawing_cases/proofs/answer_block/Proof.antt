@@ -7,13 +7,13 @@ use Rattle.drawing_cases.proofs.answer_block.Statement.{statement}
 use Rattle.drawing_cases.proofs.answer_block.Tie as tie
 
 slice-aggregate-answer-input : tie.Need-slice-aggregate-answer-input
-slice-aggregate-answer-input c = sym (length-replicate {A = ℕ} 194560 0)
+slice-aggregate-answer-input c = sym (length-replicate {A = ℕ} 203776 0)
 
 slice-aggregate-answer-input-2 : tie.Need-slice-aggregate-answer-input-2
 slice-aggregate-answer-input-2 c = sym (length-replicate {A = ℕ} 48128 0)
 
 answer-input-requires : tie.Need-answer-input-requires
-answer-input-requires c κs = (length-replicate {A = ℕ} 194560 0, length-replicate {A = ℕ} 48128 0)
+answer-input-requires c κs = (length-replicate {A = ℕ} 203776 0, length-replicate {A = ℕ} 48128 0)
 
 same-length : tie.Need-same-length
 same-length c = search needs
