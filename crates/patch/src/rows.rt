@@ -148,8 +148,8 @@ pub(crate) fn mark_rows(side: u32, patch: Patch, grid: &mut [u8]) -> u32
     loop {
         let row = lines.row();
         let new_in_row = match choice {
-            Choice::Over => scan::mark::mark_row(row, n, scale, h, mark, Choice::Over, grid),
             Choice::Under => scan::mark::mark_row(row, n, scale, h, mark, Choice::Under, grid),
+            Choice::Over => scan::mark::mark_row(row, n, scale, h, mark, Choice::Over, grid),
         };
         new_cells += new_in_row;
         if j == patch.m {

@@ -18,7 +18,8 @@ refused-requires-2 c κs = search needs
 
 returns-2 : tie.Need-returns-2
 returns-2 c =
-    wrong-number 48 _ _ _ _ (omega (arith, c .before .before .if1 .left)) (c .before .if2 .taken) (reads (c .refused2 .ensures))
+    wrong-number 48 _ _ _ _ (omega (arith, c .before .before .if1 .left)) (omega (arith, c .before .if2 .taken))
+    (reads (c .refused2 .ensures))
 
 choice-of-requires : tie.Need-choice-of-requires
 choice-of-requires c κs = search needs
