@@ -7,7 +7,6 @@ use lib.ListN.{length, getD}
 use Rattle.decide.specs.Refusal.{accepted}
 use Rattle.cube.specs.Cube.{Cell, Inside, place}
 use Rattle.cube.proofs.Places.{place-below, place-injective}
-use Rattle.drawing.specs.declared.Choice.the-variants.{Under}
 use Rattle.drawing.specs.Object.{Object, cellOf}
 use Rattle.drawing.specs.Refusals.{drawVerdict}
 use Rattle.drawing.specs.Drawing.{written, drawn}

@@ -54,8 +54,8 @@ pub record MarkOfNearObject (gridLength : ℕ) (calls : List Call) (c : Cell) (b
   pub is-sample : Sample (objectOf call .counts) sample
   pub is-near : SampleNear (objectOf call) sample c
 
--- A marked byte, in a cell that held another one before an object came to it from under: the object's mark if the cell was
--- unmarked, and the earlier mark if it was marked.
+-- What an object with this mark that goes under leaves in a cell: a mark, its own if the cell was unmarked, and the earlier
+-- one if it was marked.
 pub record MarkedFromUnder (mark held byte : ℕ) : Type 0 where
   pub is-marked : ¬ (byte ≡ 0)
   pub its-mark : held ≡ 0 → byte ≡ mark

@@ -23,7 +23,7 @@ abbrev pub drawing : (S : ℕ) → List Stroke → List ℕ
 drawing S strokes = run (map (callOf S) strokes) (unmarked S)
 
 -- Demand 3 for strokes: in the end each cell is unmarked or holds the mark of a stroke near it; every stroke is
--- accepted, and just after it its samples have their cells as demand 3 says.
+-- accepted, and just after it its samples have their cells as demand 3 says of an object that goes over.
 pub record StrokesDrawn (S : ℕ) (strokes : List Stroke) : Type 0 where
   pub each-cell : (c : Cell) → Inside S c →
       (getD (drawing S strokes) (place S c) 0 ≡ 0) ⊎

@@ -72,14 +72,14 @@ module _ {S : ℕ} (c : Curve) (twelve : length (c .points) ≡ 12) (d : Drawabl
     room = λ a. along-room limits (offset a) (offset-small a);
   }
 
-  pub grid-row : Walk S (curveOf c) (gridStrides S) (c .steps) (along []) (λ a. doubledAlong c (offset a))
+  grid-row : Walk S (curveOf c) (gridStrides S) (c .steps) (along []) (λ a. doubledAlong c (offset a))
   grid-row = curve-row (gridStrides S) (gridStride S) (grid-stride-is S) (grid-stride-small (d .side-most))
 
   pub list-row : Walk S (curveOf c) listStrides (c .steps) (along []) (λ a. doubledAlong c (offset a))
   list-row = curve-row listStrides (λ a. 1) list-stride-is (λ a. lit≤ tt)
 
   -- What an accepted drawing leaves are the marks of the row.
-  pub drawn-row : (grid : List ℕ) → drawVerdict S (length grid) (curveOf c) ≡ accepted →
+  drawn-row : (grid : List ℕ) → drawVerdict S (length grid) (curveOf c) ≡ accepted →
       drawn S (curveOf c) grid ≡
       marked (c .choice) (c .mark)
       (map placeOf (walkers (c .steps) (pos (scaleOf (curveOf c))) (gridStrides S) (startWalker c (gridStrides S)))) grid

@@ -1,5 +1,5 @@
 -- What the choice, over or under, does not change: verdicts, listings, and the number of new cells.
-use mathlib.Core.Path.{_≡_, refl, _∙_, ap}
+use mathlib.Core.Path.{_≡_, refl, ap}
 use mathlib.Core.List.{List, map}
 use Prim.Native.Nat.{ℕ, _-_}
 use lib.ListN.{length}
