@@ -17,7 +17,7 @@
      - The stack that a function states. Some calls write below the stack pointer (the red zone): an interrupt on the
        same stack must leave 128 bytes there.
    What the caller need not keep:
-     - Any length, side, count, mark, coordinate, kind or f32 may be passed; what is wrong is refused.
+     - Any length, side, count, mark, choice, coordinate, kind or f32 may be passed; what is wrong is refused.
      - NULL may be passed with the length 0, for every buffer: nothing is read or written through it.
      - No buffer needs an alignment.
      - *new_cells and *detail may hold anything before a call.
@@ -54,10 +54,11 @@ enum {
     GIDZKHALU_REFUSED_FIELD = 42,           /* a bad field */
     GIDZKHALU_REFUSED_SHEET_SIDE = 43,      /* a sheet's side of 41 to 64 */
     GIDZKHALU_REFUSED_PAST_LAST_LINE = 44,  /* a byte after the 200th curve line */
-    /* Of this interface alone, tried before all others, 51 and 53 before 52. */
+    /* Of this interface alone, tried before all others, 51 before 55 and 53 before 52. */
     GIDZKHALU_REFUSED_RECORD_LENGTH = 51,   /* a curve's points are not 12 bytes, a patch's not 48 */
     GIDZKHALU_REFUSED_OUT_LENGTH = 52,      /* a cell is not 3 bytes, channels not 12 */
     GIDZKHALU_REFUSED_KIND = 53,            /* a kind of swatch that does not exist, above 2 */
+    GIDZKHALU_REFUSED_CHOICE = 55,          /* a choice of a drawing that does not exist, above 1 */
     /* Of the refusal line, here and in Rattle. */
     GIDZKHALU_REFUSED_NUMBER = 54           /* a number or a line that five columns do not hold, above 99999 */
 };
@@ -72,6 +73,9 @@ enum {
     GIDZKHALU_SHEET_CURVES_MOST = 200,
     GIDZKHALU_REFUSAL_NUMBER_MOST = 99999   /* of a refusal line's number and line */
 };
+
+/* Choices of a drawing. */
+enum { GIDZKHALU_OVER = 0, GIDZKHALU_UNDER = 1 };
 
 /* Kinds of swatches. */
 enum { GIDZKHALU_COLOUR = 0, GIDZKHALU_GREY = 1, GIDZKHALU_HUE = 2 };
@@ -98,9 +102,11 @@ enum {
 /* At each function, "Answer" is that of an accepted call, and "Refusals" are the numbers that it can answer minus, in the
    order in which they are tried. */
 
-/* Drawings: a cell whose byte is 0 is unmarked. An accepted drawing writes into *new_cells how many cells it turned from
-   unmarked to marked: a cell is counted once, however many samples fall in it, and a mark written over another mark is not
-   new. A refused one leaves *new_cells as it was. */
+/* Drawings: a cell whose byte is 0 is unmarked. With the choice 0 a drawing goes over: it writes its mark in the cell of
+   each sample. With the choice 1 it goes under: it writes its mark only where that cell is unmarked, and a marked cell
+   keeps what it holds. An accepted drawing writes into *new_cells how many cells it turned from unmarked to marked: a cell
+   is counted once, however many samples fall in it, and a mark written over another mark is not new. Over and under turn
+   the same cells of a grid to marked; under writes no others. A refused drawing leaves *new_cells as it was. */
 
 /* Curves: points has x y z of points 0 to 3, 12 bytes. A cell (x, y, z) stands at byte x + side y + side side z. The cell
    of a sample has on each axis the whole number c with c - 1/2 < value <= c + 1/2. The cells of neighbouring samples, of a
@@ -118,12 +124,12 @@ int64_t gidzkhalu_check_curve(uint32_t side, const uint8_t *points, size_t point
 int64_t gidzkhalu_list_curve(uint32_t side, const uint8_t *points, size_t points_len, uint32_t steps,
                              uint8_t *list, size_t list_len);
 
-/* Writes the mark in the cell of each sample, and the count of new cells, from 0 to steps + 1, into *new_cells. Answer:
+/* Draws a curve, over or under, and writes the count of new cells, from 0 to steps + 1, into *new_cells. Answer:
    steps + 1.
-   Refusals: 51, 11, 21, 12, 13, 14, 15.
+   Refusals: 51, 55, 11, 21, 12, 13, 14, 15.
    Stack: 233 bytes. Instructions: 32580. Environment: any. */
 int64_t gidzkhalu_draw_curve(uint32_t side, const uint8_t *points, size_t points_len, uint32_t steps, uint8_t mark,
-                             uint8_t *grid, size_t grid_len, uint32_t *new_cells);
+                             uint32_t choice, uint8_t *grid, size_t grid_len, uint32_t *new_cells);
 
 /* Patches: points has x y z of points 0 to 15, 48 bytes; g(i, j), i along t and j along u, is point 4 i + j. n steps
    along t, m along u. */
@@ -133,12 +139,12 @@ int64_t gidzkhalu_draw_curve(uint32_t side, const uint8_t *points, size_t points
    Stack: 856 bytes. Instructions: 3379131. Environment: any. */
 int64_t gidzkhalu_check_patch(uint32_t side, const uint8_t *points, size_t points_len, uint32_t n, uint32_t m);
 
-/* Writes the mark in the cell of each sample, and the count of new cells, from 0 to (n + 1) (m + 1), into *new_cells.
-   Answer: (n + 1) (m + 1).
-   Refusals: 51, 11, 21, 12, 13, 14, 15.
+/* Draws a patch, over or under, and writes the count of new cells, from 0 to (n + 1) (m + 1), into *new_cells. Answer:
+   (n + 1) (m + 1).
+   Refusals: 51, 55, 11, 21, 12, 13, 14, 15.
    Stack: 1704 bytes. Instructions: 6038472. Environment: any. */
 int64_t gidzkhalu_draw_patch(uint32_t side, const uint8_t *points, size_t points_len, uint32_t n, uint32_t m,
-                             uint8_t mark, uint8_t *grid, size_t grid_len, uint32_t *new_cells);
+                             uint8_t mark, uint32_t choice, uint8_t *grid, size_t grid_len, uint32_t *new_cells);
 
 /* Swatches: kind 0 is a colour, kind 1 a grey, kind 2 a hue with its saturation and value. A swatch's refusals, in the
    order in which they are tried:
@@ -163,10 +169,10 @@ int64_t gidzkhalu_half_way(uint32_t kind, float a, float b, float c, uint32_t ki
 
 /* Sheets. */
 
-/* Draws a sheet into the first side x side x side bytes of the buffer, cleared first; the rest keeps what it held. Writes
-   the side into *detail, and the new cells of its curve lines added up, which are the marked cells of its cube, into
-   *new_cells. A refused sheet writes its line (0 for 21) into *detail and leaves *new_cells. Answer: the number of curve
-   lines.
+/* Draws a sheet into the first side x side x side bytes of the buffer, cleared first; the rest keeps what it held. Its
+   curve lines go over one another in turn. Writes the side into *detail, and the new cells of its curve lines added up,
+   which are the marked cells of its cube, into *new_cells. A refused sheet writes its line (0 for 21) into *detail and
+   leaves *new_cells. Answer: the number of curve lines.
    Refusals: 21; then of line 1: 41, 42, 11, 43; then of each later line in turn: 44, 41, 42, 12, 13, 14, 15.
    memset is called for at most 64000 bytes. An input that goes on after 200 curve lines takes no longer.
    Stack: 329 bytes. Instructions: 6789319. Environment: any. */
