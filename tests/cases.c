@@ -51,7 +51,7 @@ void random_bytes(uint8_t *to, size_t len) {
 unsigned random_faults(unsigned possible) {
     unsigned faults = 0;
     for (uint32_t wanted = one_in(2) ? 0 : 1 + below(2); wanted > 0; wanted--)
-        faults |= 1u << below(7);
+        faults |= 1u << below(8);
     return faults & possible;
 }
 
@@ -260,6 +260,13 @@ static void bad_coordinate(const struct object_call *call, uint8_t *points) {
         points[k] = (uint8_t)(one_in(2) ? call->side : between(call->side, 255));
 }
 
+/* Among them those that are a choice in their low byte or low two bytes. */
+static uint32_t bad_choice(void) {
+    static const uint32_t choices[] = {2,   2,   3,     254,   255,        256,
+                                       257, 258, 65536, 65537, 0x80000000, 0xFFFFFFFF};
+    return one_in(4) ? 2 + below(0xFFFFFFFE) : PICK(choices);
+}
+
 static size_t bad_points_len(size_t right) {
     static const size_t lengths[] = {0, 1, 11, 12, 13, 24, 36, 47, 48, 49, 60};
     size_t len = PICK(lengths);
@@ -300,6 +307,7 @@ void random_object(struct object_call *call, uint8_t *points, int large, unsigne
     call->points = points;
     call->points_len = call->patch ? 48 : 12;
     call->mark = (faults & BAD_MARK) != 0 ? 0 : (uint8_t)(1 + below(255));
+    call->choice = (faults & BAD_CHOICE) != 0 ? bad_choice() : below(2);
     random_bytes(points, 64);
     random_points(points, call->patch, call->side, large);
     random_counts(call, large);
@@ -590,7 +598,7 @@ static void spoil_numbers(uint32_t *number, uint32_t side, unsigned faults) {
 /* Of the lines that are not trivial one in eight of a short sheet may have too few steps. */
 static void random_numbers(uint32_t *number, uint32_t side, int trivial, int large) {
     uint8_t points[64];
-    struct object_call curve = {CHECK, 0, side, 1, 0, 0, points, 12, NULL, 0, NULL};
+    struct object_call curve = {CHECK, 0, side, 1, 0, 0, OVER, points, 12, NULL, 0, NULL};
     random_points(points, 0, side, 0);
     for (int k = 3; trivial && k < 12; k++)
         points[k] = points[k % 3];

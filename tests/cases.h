@@ -24,7 +24,8 @@ enum fault {
     BAD_COUNT = 16,
     BAD_COORDINATE = 32,
     LONG_STEP = 64,
-    ALL_FAULTS = 127
+    BAD_CHOICE = 128,
+    ALL_FAULTS = 255
 };
 
 /* None, one or two of the faults. */
@@ -34,7 +35,7 @@ uint32_t random_side(void);
 uint32_t bad_side(void);
 
 /* Fills in all of a call but its service, patch, side and lent buffer; points is room for 64 bytes. The side is a good
-   one, and changed only by BAD_SIDE. */
+   one, and changed only by BAD_SIDE. Both choices are as likely. */
 void random_object(struct object_call *call, uint8_t *points, int large, unsigned faults);
 
 /* The f32 of a bit pattern. */

@@ -79,7 +79,8 @@ const int NUMBER[NUMBERS] = {0,
                              GIDZKHALU_REFUSED_RECORD_LENGTH,
                              GIDZKHALU_REFUSED_OUT_LENGTH,
                              GIDZKHALU_REFUSED_KIND,
-                             GIDZKHALU_REFUSED_NUMBER};
+                             GIDZKHALU_REFUSED_NUMBER,
+                             GIDZKHALU_REFUSED_CHOICE};
 
 int index_of(int number) {
     for (int k = 0; k < NUMBERS; k++)

@@ -29,7 +29,7 @@ uint32_t *number_at(uint8_t *bytes);
 int same(const struct lent *lent);
 
 /* The refusal numbers; 0 stands for an accepted call. */
-enum { NUMBERS = 19 };
+enum { NUMBERS = 20 };
 
 extern const int NUMBER[NUMBERS];
 int index_of(int number);
@@ -41,7 +41,7 @@ struct counts {
 
 void count_order(struct counts *counts, const struct order *order);
 
-/* What a whole run must meet. */
+/* What a whole run must meet. Entries of drawings over are followed by as many of the same drawings under. */
 #define MET(X)                                                                                                         \
     X(CURVE_HALF_RISING, "curve samples on a half, above the sample before")                                           \
     X(CURVE_HALF_FALLING, "curve samples on a half, below the sample before")                                          \
@@ -73,23 +73,45 @@ void count_order(struct counts *counts, const struct order *order);
     X(LIST_EXACT, "accepted lists of exactly 3 (n + 1) bytes")                                                         \
     X(LIST_SHORT, "22 for a list one byte short")                                                                      \
     X(ENDS_HALF, "curves listed from both ends with a sample on a half")                                               \
-    X(CURVE_UNMARKED, "curves drawn into an unmarked grid")                                                            \
-    X(CURVE_HALF_MARKED, "curves drawn into a grid of which 2 to 3 fifths are marked, some cells new and some not")    \
-    X(CURVE_MARKED, "curves drawn into a grid without an unmarked cell")                                               \
-    X(PATCH_UNMARKED, "patches drawn into an unmarked grid")                                                           \
-    X(PATCH_HALF_MARKED, "patches drawn into a grid of which 2 to 3 fifths are marked, some cells new and some not")   \
-    X(PATCH_MARKED, "patches drawn into a grid without an unmarked cell")                                              \
+    X(CURVE_OVER_UNMARKED, "curves drawn over, into an unmarked grid")                                                 \
+    X(CURVE_OVER_HALF, "curves drawn over, 2 to 3 fifths of the grid marked, some cells new and some not")             \
+    X(CURVE_OVER_MARKED, "curves drawn over, into a grid without an unmarked cell")                                    \
+    X(CURVE_UNDER_UNMARKED, "curves drawn under, into an unmarked grid")                                               \
+    X(CURVE_UNDER_HALF, "curves drawn under, 2 to 3 fifths of the grid marked, some cells new and some not")           \
+    X(CURVE_UNDER_MARKED, "curves drawn under, into a grid without an unmarked cell")                                  \
+    X(PATCH_OVER_UNMARKED, "patches drawn over, into an unmarked grid")                                                \
+    X(PATCH_OVER_HALF, "patches drawn over, 2 to 3 fifths of the grid marked, some cells new and some not")            \
+    X(PATCH_OVER_MARKED, "patches drawn over, into a grid without an unmarked cell")                                   \
+    X(PATCH_UNDER_UNMARKED, "patches drawn under, into an unmarked grid")                                              \
+    X(PATCH_UNDER_HALF, "patches drawn under, 2 to 3 fifths of the grid marked, some cells new and some not")          \
+    X(PATCH_UNDER_MARKED, "patches drawn under, into a grid without an unmarked cell")                                 \
     X(ALL_SAMPLES_NEW, "drawings with a new cell for every sample")                                                    \
     X(GRID_FILLED, "drawings that leave no cell unmarked, some new")                                                   \
     X(ONE_CELL_NEW, "curves with all samples in one cell, a new one")                                                  \
     X(ONE_CELL_MARKED, "curves with all samples in one cell, a marked one")                                            \
-    X(COMES_BACK, "curves that come back to a new cell")                                                               \
-    X(CURVE_AGAIN, "curves drawn over themselves with their mark: no new cell")                                        \
-    X(CURVE_OTHER_MARK, "curves drawn over themselves with another mark: no new cell")                                 \
-    X(PATCH_AGAIN, "patches drawn over themselves: no new cell")                                                       \
-    X(CURVES_CROSS, "curves over part of another, with new cells and a half or less of their cells on it")             \
+    X(OVER_COMES_BACK, "curves drawn over that come back to a new cell")                                               \
+    X(UNDER_COMES_BACK, "curves drawn under that come back to a new cell")                                             \
+    X(CURVE_OVER_ITSELF, "curves drawn over themselves with their mark: no new cell")                                  \
+    X(CURVE_OVER_ITSELF_OTHER, "curves drawn over themselves with another mark: no new cell")                          \
+    X(PATCH_OVER_ITSELF, "patches drawn over themselves: no new cell")                                                 \
+    X(CURVE_UNDER_ITSELF, "curves drawn under themselves with their mark: nothing written")                            \
+    X(CURVE_UNDER_ITSELF_OTHER, "curves drawn under themselves with another mark: nothing written")                    \
+    X(PATCH_UNDER_ITSELF, "patches drawn under themselves: nothing written")                                           \
+    X(CURVE_OVER_CURVE, "curves over part of another, with new cells and a half or less of their cells on it")         \
     X(CURVE_OVER_PATCH, "curves over part of a patch, with new cells")                                                 \
     X(PATCH_OVER_CURVE, "patches over part of a curve, with new cells")                                                \
+    X(CURVE_UNDER_CURVE, "curves under part of another, with new cells and a half or less of their cells on it")       \
+    X(CURVE_UNDER_PATCH, "curves under part of a patch, with new cells")                                               \
+    X(PATCH_UNDER_CURVE, "patches under part of a curve, with new cells")                                              \
+    X(OVER_ON_UNDER, "drawings over part of one that was drawn under, with new cells")                                 \
+    X(UNDER_NOTHING, "drawings under marked cells alone, in a grid with unmarked ones: nothing written")               \
+    X(UNDER_OWN_MARK, "drawings under cells of which some held their own mark")                                        \
+    X(UNDER_GAP, "curves drawn under that fill unmarked cells between marked ones")                                    \
+    X(CHOICE_2, "55 for the choice 2")                                                                                 \
+    X(CHOICE_255, "55 for the choice 255")                                                                             \
+    X(CHOICE_256, "55 for the choice 256")                                                                             \
+    X(CHOICE_HIGH, "55 for the choice 2^31")                                                                           \
+    X(CHOICE_LAST, "55 for the choice 2^32 - 1")                                                                       \
     X(GRID_SHORT, "21 for a grid one byte short")                                                                      \
     X(GRID_LONG, "21 for a grid one byte long")                                                                        \
     X(CHANNEL_HALF, "accepted swatches with a channel on a half")                                                      \
@@ -158,7 +180,8 @@ void count_order(struct counts *counts, const struct order *order);
     X(NULL_BUFFER, "NULL for a sheet's buffer of length 0")                                                            \
     X(NULL_CUBE, "NULL for a cube of length 0")                                                                        \
     X(NULL_TEXT, "NULL for a text of length 0")                                                                        \
-    X(LIST_OF_THREE, "lists with three accepted calls or more")
+    X(LIST_OF_THREE, "lists with three accepted calls or more")                                                        \
+    X(LIST_OF_BOTH, "lists with accepted calls of both choices")
 
 #define MET_NAME(name, words) name,
 enum met { MET(MET_NAME) METS };

@@ -26,7 +26,7 @@ static void print_object(const struct object_call *c) {
     if (c->patch)
         printf(", m %" PRIu32, c->m);
     if (c->service == DRAW)
-        printf(", mark %d", c->mark);
+        printf(", mark %d, choice %" PRIu32, c->mark, c->choice);
     if (c->service != CHECK)
         printf(", %s of %zu bytes", c->service == LIST ? "list" : "grid", c->lent_len);
     printf("\n");
@@ -39,12 +39,13 @@ static int64_t library_object(const struct object_call *c) {
     if (c->patch && c->service == CHECK)
         return gidzkhalu_check_patch(c->side, p, len, c->n, c->m);
     if (c->patch)
-        return gidzkhalu_draw_patch(c->side, p, len, c->n, c->m, c->mark, c->lent, c->lent_len, c->new_cells);
+        return gidzkhalu_draw_patch(c->side, p, len, c->n, c->m, c->mark, c->choice, c->lent, c->lent_len,
+                                    c->new_cells);
     if (c->service == CHECK)
         return gidzkhalu_check_curve(c->side, p, len, c->n);
     if (c->service == LIST)
         return gidzkhalu_list_curve(c->side, p, len, c->n, c->lent, c->lent_len);
-    return gidzkhalu_draw_curve(c->side, p, len, c->n, c->mark, c->lent, c->lent_len, c->new_cells);
+    return gidzkhalu_draw_curve(c->side, p, len, c->n, c->mark, c->choice, c->lent, c->lent_len, c->new_cells);
 }
 
 static int any_coordinate(const struct object_call *c, uint32_t value) {
@@ -95,6 +96,11 @@ static void meet_refused_object(const struct object_call *c, int64_t answer) {
     size_t volume = (size_t)c->side * c->side * c->side;
     meet(SIDE_1, answer == -11 && c->side == 1);
     meet(SIDE_65, answer == -11 && c->side == 65);
+    meet(CHOICE_2, answer == -55 && c->choice == 2);
+    meet(CHOICE_255, answer == -55 && c->choice == 255);
+    meet(CHOICE_256, answer == -55 && c->choice == 256);
+    meet(CHOICE_HIGH, answer == -55 && c->choice == 0x80000000);
+    meet(CHOICE_LAST, answer == -55 && c->choice == 0xFFFFFFFF);
     meet(COUNT_0, answer == -13 && (c->n == 0 || (c->patch && c->m == 0)));
     meet(CURVE_513, answer == -13 && !c->patch && c->n == 513);
     meet(PATCH_257, answer == -13 && c->patch && (c->n == 257 || c->m == 257));
@@ -114,21 +120,22 @@ static void count_drawing(int64_t answer) {
 /* Compares the count of a drawing; unmarked is the number of unmarked cells of its grid before it. Those that the library
    counts in an accepted one are no more than its samples, its different cells and the unmarked cells. */
 static int compare_new_cells(const struct object_call *c, int64_t answer, size_t unmarked) {
-    uint32_t count = *number_at(new_cells.got);
+    uint32_t count = *number_at(new_cells.got), drawn = 6 * (c->patch != 0) + 3 * c->choice;
     size_t cells;
     count_drawing(answer);
     if (answer < 0)
         return same(&new_cells);
     cells = different_cells(&samples, c->side);
-    meet(c->patch ? PATCH_UNMARKED : CURVE_UNMARKED, unmarked == grid.len);
-    meet(c->patch ? PATCH_HALF_MARKED : CURVE_HALF_MARKED,
+    meet((enum met)(CURVE_OVER_UNMARKED + drawn), unmarked == grid.len);
+    meet((enum met)(CURVE_OVER_HALF + drawn),
          2 * grid.len <= 5 * unmarked && 5 * unmarked <= 3 * grid.len && 0 < count && count < cells);
-    meet(c->patch ? PATCH_MARKED : CURVE_MARKED, unmarked == 0);
+    meet((enum met)(CURVE_OVER_MARKED + drawn), unmarked == 0);
     meet(ALL_SAMPLES_NEW, count == (uint64_t)answer);
     meet(GRID_FILLED, count > 0 && count == unmarked);
     meet(ONE_CELL_NEW, !c->patch && cells == 1 && count == 1);
     meet(ONE_CELL_MARKED, !c->patch && cells == 1 && count == 0);
-    meet(COMES_BACK, !c->patch && turns(&samples) > cells && count == cells);
+    meet(c->choice == OVER ? OVER_COMES_BACK : UNDER_COMES_BACK,
+         !c->patch && turns(&samples) > cells && count == cells);
     return same(&new_cells) && count <= (uint64_t)answer && count <= cells && count <= unmarked;
 }
 
@@ -173,7 +180,7 @@ static int compare_object(struct object_call *c, int64_t *want) {
 }
 
 static int object_case(enum service service, int patch, int large, unsigned faults) {
-    struct object_call c = {service, patch, 0, 0, 0, 0, NULL, 0, NULL, 0, NULL};
+    struct object_call c = {service, patch, 0, 0, 0, 0, OVER, NULL, 0, NULL, 0, NULL};
     uint8_t record[64];
     int64_t answer;
     c.side = !large ? random_side() : one_in(2) ? 64 : 33 + below(32);
@@ -220,7 +227,7 @@ static int reversed(const uint8_t *list, const uint8_t *back, size_t cells) {
 /* From its other end a curve has the same refusal, or the same cells in reverse order. */
 static int both_ends(void) {
     static uint8_t list[GIDZKHALU_LIST_BYTES(GIDZKHALU_CURVE_STEPS_MOST)];
-    struct object_call c = {LIST, 0, random_side(), 0, 0, 0, NULL, 0, NULL, 0, NULL};
+    struct object_call c = {LIST, 0, random_side(), 0, 0, 0, OVER, NULL, 0, NULL, 0, NULL};
     uint64_t halves = met[CURVE_HALF_RISING] + met[CURVE_HALF_FALLING];
     uint8_t record[64];
     int64_t there, back;
@@ -682,9 +689,14 @@ static int refusal_line(void) {
     return 0;
 }
 
-/* 51, 52 or 53 for each call that can have them, often with another number that applies. */
+/* A length of the record or a choice that is wrong. */
+static int wrong_record(enum service service, int patch) {
+    unsigned fault = service == DRAW && one_in(2) ? BAD_CHOICE : BAD_RECORD;
+    return object_case(service, patch, 0, fault | random_faults(ALL_FAULTS));
+}
+
+/* 51, 52, 53 or 55 for each call that can have them, often with another number that applies. */
 static int wrong_length(void) {
-    unsigned faults = BAD_RECORD | random_faults(ALL_FAULTS);
     switch (below(16)) {
     case 0:
     case 1:
@@ -696,57 +708,108 @@ static int wrong_length(void) {
         return half_way_case(1);
     case 6:
     case 7:
-        return object_case(one_in(2) ? CHECK : DRAW, 1, 0, faults);
+        return wrong_record(one_in(2) ? CHECK : DRAW, 1);
     default:
-        return object_case((enum service)below(3), 0, 0, faults);
+        return wrong_record((enum service)below(3), 0);
     }
+}
+
+/* Drawings, by the grid before them and the one after them */
+
+enum { CELLS = 64 * 64 * 64, LONGEST_GRID = 300001 }; /* of a wrong length as well */
+
+/* Of the accepted drawing compared last, which went under. */
+static void meet_under(const struct object_call *c, const uint8_t *before) {
+    meet(UNDER_NOTHING, *number_at(new_cells.got) == 0 && unmarked_cells(before, grid.len) > 0);
+    meet(UNDER_OWN_MARK, meets_mark(&samples, c->side, c->mark, before));
+    meet(UNDER_GAP, !c->patch && meets_gap(&samples, c->side, before));
+}
+
+/* What is wrong with the library's grid after the accepted drawing compared last, by the documents' words, or NULL. */
+static const char *fault_of_drawing(const struct object_call *c, const uint8_t *before) {
+    static uint8_t backwards[CELLS];
+    if (!samples_hold(&samples, c, before, grid.got))
+        return "demand 3's second sentence does not hold after the last call";
+    if (!others_kept(&samples, c, before, grid.got))
+        return "the last call has changed a cell that has no sample";
+    if (c->choice == UNDER && !marks_kept(before, grid.got, grid.len))
+        return "the last call went under and has changed a marked cell";
+    memcpy(backwards, before, grid.len);
+    mark_backwards(&samples, c->side, c->mark, (enum choice)c->choice, backwards);
+    if (memcmp(backwards, grid.got, grid.len) != 0)
+        return "the last call's samples in reverse order leave another grid";
+    return NULL;
+}
+
+static int print_drawing(const char *fault, const struct object_call *c, const uint8_t *before) {
+    struct object_call printed = *c;
+    printf("FAILED: %s, case %" PRIu64 ", seed %" PRIu64 ": %s\n", running.name, running.number, running.seed, fault);
+    printed.points = points.want;
+    print_cube(before, grid.len);
+    print_object(&printed);
+    print_number(&new_cells);
+    return 0;
+}
+
+/* Compares a drawing into the grid with the reference's and with the documents' words. */
+static int compare_drawing(struct object_call *c, int64_t *answer) {
+    static uint8_t before[LONGEST_GRID];
+    const char *fault;
+    memcpy(before, grid.got, grid.len);
+    if (!compare_object(c, answer))
+        return 0;
+    if (*answer < 0)
+        return 1;
+    if (c->choice == UNDER)
+        meet_under(c, before);
+    fault = fault_of_drawing(c, before);
+    return fault == NULL || print_drawing(fault, c, before);
 }
 
 /* Two drawings into one grid */
 
-enum { CELLS = 64 * 64 * 64 };
-
 /* The different cells of the object compared last that are marked in other. */
 static size_t cells_shared(uint32_t side, uint8_t *other, size_t len) {
     size_t before = unmarked_cells(other, len);
-    mark_cells(&samples, side, 0, other);
+    mark_cells(&samples, side, 0, OVER, other);
     return unmarked_cells(other, len) - before;
 }
 
 /* first_cells holds a mark in each cell of the first drawing. */
 static void meet_second(const struct object_call *first, const struct object_call *second, uint8_t *first_cells) {
-    uint32_t count = *number_at(new_cells.got);
+    uint32_t count = *number_at(new_cells.got), drawn = 3 * second->choice;
     size_t cells = different_cells(&samples, second->side), marked = grid.len - unmarked_cells(first_cells, grid.len);
     size_t shared = cells_shared(second->side, first_cells, grid.len);
-    int over_part = 0 < count && 0 < shared && shared < marked;
-    meet(CURVES_CROSS, !first->patch && !second->patch && over_part && 2 * shared <= cells);
-    meet(CURVE_OVER_PATCH, first->patch && !second->patch && over_part);
-    meet(PATCH_OVER_CURVE, !first->patch && second->patch && over_part);
+    int on_part = 0 < count && 0 < shared && shared < marked;
+    meet((enum met)(CURVE_OVER_CURVE + drawn), !first->patch && !second->patch && on_part && 2 * shared <= cells);
+    meet((enum met)(CURVE_OVER_PATCH + drawn), first->patch && !second->patch && on_part);
+    meet((enum met)(PATCH_OVER_CURVE + drawn), !first->patch && second->patch && on_part);
+    meet(OVER_ON_UNDER, first->choice == UNDER && second->choice == OVER && on_part);
 }
 
-/* Draws the object a second time, over itself: no cell is new. */
+/* Draws the object a second time, over or under itself: no cell is new. */
 static int drawn_again(struct object_call *c) {
     uint8_t mark = c->mark;
     int64_t answer;
     if (one_in(2))
         c->mark = (uint8_t)(1 + below(255));
-    meet(PATCH_AGAIN, c->patch);
-    meet(c->mark == mark ? CURVE_AGAIN : CURVE_OTHER_MARK, !c->patch);
-    if (!compare_object(c, &answer))
+    c->choice = below(2);
+    meet((enum met)(CURVE_OVER_ITSELF + 3 * c->choice + (c->patch ? 2 : c->mark != mark)), 1);
+    if (!compare_drawing(c, &answer))
         return 0;
     if (answer >= 0 && *number_at(new_cells.got) == 0)
         return 1;
     print_failure(answer, answer);
-    printf("  drawn over itself, an object has new cells:\n");
+    printf("  drawn over or under itself, an object has new cells:\n");
     print_object(c);
     print_number(&new_cells);
     return 0;
 }
 
 /* Into an unmarked grid, or one that holds marks: an object, then the same or another one. */
-static int drawn_over(void) {
+static int two_drawings(void) {
     static uint8_t first_cells[CELLS];
-    struct object_call first = {DRAW, 0, random_side(), 0, 0, 0, NULL, 0, NULL, 0, NULL}, second = first;
+    struct object_call first = {DRAW, 0, random_side(), 0, 0, 0, OVER, NULL, 0, NULL, 0, NULL}, second = first;
     uint8_t record[64];
     int64_t answer;
     first.patch = one_in(3);
@@ -757,22 +820,70 @@ static int drawn_over(void) {
         memset(grid.want, 0, grid.len);
         memset(grid.got, 0, grid.len);
     }
-    if (!compare_object(&first, &answer))
+    if (!compare_drawing(&first, &answer))
         return 0;
     if (answer < 0)
         return 1;
     if (one_in(3))
         return drawn_again(&first);
     memset(first_cells, 0, grid.len);
-    mark_cells(&samples, first.side, 1, first_cells);
+    mark_cells(&samples, first.side, 1, OVER, first_cells);
     second.patch = one_in(3);
     random_object(&second, record, 0, 0);
     lend_bytes(&points, record, second.points_len);
-    if (!compare_object(&second, &answer))
+    if (!compare_drawing(&second, &answer))
         return 0;
     if (answer >= 0)
         meet_second(&first, &second, first_cells);
     return 1;
+}
+
+/* One drawing over and under */
+
+/* A mark that some cell of the grid holds, or the one given where the cell is unmarked. */
+static uint8_t held_mark(uint8_t otherwise) {
+    uint8_t held = grid.len == 0 ? 0 : grid.got[below((uint32_t)grid.len)];
+    return held != 0 ? held : otherwise;
+}
+
+/* Whether each cell, after a drawing under, holds what it held, and where it was unmarked what it holds after the same
+   drawing over. */
+static int under_as_over(const uint8_t *start, const uint8_t *over) {
+    for (size_t p = 0; p < grid.len; p++)
+        if (grid.got[p] != (start[p] != 0 ? start[p] : over[p]))
+            return 0;
+    return 1;
+}
+
+/* The same record over and then under, each into a grid of the same bytes: the same answer and the same new cells. */
+static int over_and_under(void) {
+    static uint8_t start[LONGEST_GRID], over[LONGEST_GRID];
+    struct object_call c = {DRAW, 0, random_side(), 0, 0, 0, OVER, NULL, 0, NULL, 0, NULL};
+    uint8_t record[64];
+    uint32_t count;
+    int64_t answer, answer_under;
+    c.patch = one_in(3);
+    random_object(&c, record, 0, one_in(2) ? random_faults(ALL_FAULTS & ~(unsigned)BAD_CHOICE) : 0);
+    lend_bytes(&points, record, c.points_len);
+    lend_cube(&grid, c.lent_len);
+    if (c.mark != 0 && one_in(2))
+        c.mark = held_mark(c.mark);
+    memcpy(start, grid.got, grid.len);
+    c.choice = OVER;
+    if (!compare_drawing(&c, &answer))
+        return 0;
+    memcpy(over, grid.got, grid.len);
+    count = *number_at(new_cells.got);
+    lend_bytes(&grid, start, grid.len);
+    c.choice = UNDER;
+    if (!compare_drawing(&c, &answer_under))
+        return 0;
+    if (answer != answer_under)
+        return print_drawing("over and under do not have the same answer", &c, start);
+    if (answer >= 0 && count != *number_at(new_cells.got))
+        return print_drawing("over and under do not have as many new cells", &c, start);
+    return answer < 0 || under_as_over(start, over) ||
+           print_drawing("over and under do not have the same new cells", &c, start);
 }
 
 /* Lists of calls into one grid: demand 3 */
@@ -805,16 +916,20 @@ static int print_list(const char *fault, int length, const uint8_t *start) {
 /* Draws call k and adds its new cells; if it is accepted, the second sentence holds just after it. Answers what is wrong,
    or NULL. */
 static const char *fault_of_call(int k, size_t *added) {
+    static uint8_t before[CELLS];
     struct object_call c = calls[k];
+    const char *fault = NULL;
     int64_t answer;
     int agreed;
     lend_bytes(&points, call_points[k], c.points_len);
+    memcpy(before, grid.got, grid.len);
     agreed = compare_object(&c, &answer);
     call_accepted[k] = answer >= 0;
-    *added += answer >= 0 ? *number_at(new_cells.got) : 0;
-    if (answer >= 0 && !samples_hold(&samples, c.side, c.mark, grid.got))
-        return "demand 3's second sentence does not hold after the last call";
-    return agreed ? NULL : "the last call is not the reference's";
+    if (answer >= 0) {
+        *added += *number_at(new_cells.got);
+        fault = fault_of_drawing(&c, before);
+    }
+    return fault != NULL || agreed ? fault : "the last call is not the reference's";
 }
 
 /* The first sentence, for the grid after the list. */
@@ -835,7 +950,7 @@ static int list_holds(int length, const uint8_t *start) {
 static int list_of_calls(void) {
     static uint8_t start[CELLS];
     uint32_t side = random_side();
-    int length = (int)below(CALLS + 1), accepted = 0;
+    int length = (int)below(CALLS + 1), accepted[2] = {0, 0};
     size_t added = 0;
     const char *fault;
     lend_cube(&grid, (size_t)side * side * side);
@@ -845,9 +960,11 @@ static int list_of_calls(void) {
         fault = fault_of_call(k, &added);
         if (fault != NULL)
             return print_list(fault, k + 1, start);
-        accepted += call_accepted[k];
+        if (call_accepted[k])
+            accepted[calls[k].choice]++;
     }
-    meet(LIST_OF_THREE, accepted >= 3);
+    meet(LIST_OF_THREE, accepted[OVER] + accepted[UNDER] >= 3);
+    meet(LIST_OF_BOTH, accepted[OVER] > 0 && accepted[UNDER] > 0);
     if (added != unmarked_cells(start, grid.len) - unmarked_cells(grid.got, grid.len))
         return print_list("the new cells do not add up", length, start);
     return list_holds(length, start) || print_list("demand 3's first sentence does not hold", length, start);
@@ -879,7 +996,7 @@ static void lend_known(int k, int axis) {
 }
 
 static int known_curve(int k, int axis) {
-    struct object_call c = {LIST, 0, 8, 0, 0, 0, NULL, 12, NULL, 64, NULL};
+    struct object_call c = {LIST, 0, 8, 0, 0, 0, OVER, NULL, 12, NULL, 64, NULL};
     const char *cells = KNOWN[k].cells;
     int64_t answer;
     lend_known(k, axis);
@@ -896,9 +1013,9 @@ static int known_curve(int k, int axis) {
 /* What side 8 has unmarked. */
 static const uint8_t UNMARKED[512];
 
-/* Drawn into an unmarked grid, each cell of the curve is new once; drawn again with another mark, none. */
-static int known_drawing(int k, int axis) {
-    struct object_call c = {DRAW, 0, 8, KNOWN[k].n, 0, 9, NULL, 12, NULL, sizeof UNMARKED, NULL};
+/* Drawn into an unmarked grid, over or under, each cell of the curve is new once; drawn again with another mark, none. */
+static int known_drawing(int k, int axis, uint32_t choice) {
+    struct object_call c = {DRAW, 0, 8, KNOWN[k].n, 0, 9, choice, NULL, 12, NULL, sizeof UNMARKED, NULL};
     const char *cells = KNOWN[k].cells;
     uint32_t different = 0;
     int64_t answer;
@@ -916,10 +1033,47 @@ static int known_drawing(int k, int axis) {
     return (compare_object(&c, &answer) && *number_at(new_cells.got) == 0) || known_failed(KNOWN[k].name);
 }
 
+/* K1 with a mark and a choice into a grid whose other cells are unmarked: what its four cells hold before and after, and
+   how many are new. */
+static const struct {
+    uint8_t mark;
+    uint32_t choice;
+    uint8_t before[4], after[4];
+    int64_t answer;
+    uint32_t count;
+} CHOSEN[] = {{7, GIDZKHALU_OVER, {0, 0, 0, 0}, {7, 7, 7, 7}, 4, 4},
+              {7, GIDZKHALU_UNDER, {0, 0, 0, 0}, {7, 7, 7, 7}, 4, 4},
+              {9, GIDZKHALU_OVER, {0, 5, 9, 0}, {9, 9, 9, 9}, 4, 2},
+              {9, GIDZKHALU_UNDER, {0, 5, 9, 0}, {9, 5, 9, 9}, 4, 2},
+              {9, GIDZKHALU_UNDER, {9, 0, 0, 5}, {9, 9, 9, 5}, 4, 2},
+              {7, GIDZKHALU_OVER, {3, 5, 9, 1}, {7, 7, 7, 7}, 4, 0},
+              {7, GIDZKHALU_UNDER, {3, 5, 9, 1}, {3, 5, 9, 1}, 4, 0},
+              {7, 2, {0, 5, 9, 0}, {0, 5, 9, 0}, -GIDZKHALU_REFUSED_CHOICE, 0}};
+
+static int known_choice(size_t k, int axis) {
+    static const size_t stride[3] = {1, 8, 64};
+    struct object_call c = {DRAW, 0, 8, 3, 0, 0, OVER, NULL, 12, NULL, sizeof UNMARKED, NULL};
+    uint8_t held[sizeof UNMARKED] = {0};
+    int64_t answer;
+    for (size_t at = 0; at < 4; at++)
+        held[stride[axis] * at] = CHOSEN[k].before[at];
+    c.mark = CHOSEN[k].mark;
+    c.choice = CHOSEN[k].choice;
+    lend_known(0, axis);
+    lend_bytes(&grid, held, sizeof held);
+    if (!compare_object(&c, &answer) || answer != CHOSEN[k].answer)
+        return known_failed("K1, over or under");
+    for (size_t at = 0; at < 4; at++)
+        held[stride[axis] * at] = CHOSEN[k].after[at];
+    return (memcmp(grid.got, held, sizeof held) == 0 &&
+            (answer < 0 || *number_at(new_cells.got) == CHOSEN[k].count)) ||
+           known_failed("K1, over or under");
+}
+
 /* K12: x of g(i, j) is i + j; row 2 along t. No call lists a patch: the reference has the row, the grids agree. Its cells
    are those with x from 0 to 6. */
 static int known_patch(void) {
-    struct object_call c = {DRAW, 1, 8, 4, 4, 9, NULL, 48, NULL, sizeof UNMARKED, NULL};
+    struct object_call c = {DRAW, 1, 8, 4, 4, 9, OVER, NULL, 48, NULL, sizeof UNMARKED, NULL};
     uint8_t record[48] = {0};
     int64_t answer;
     for (int k = 0; k < 16; k++)
@@ -938,7 +1092,7 @@ static int known_patch(void) {
 static int known_halves(void) {
     static const uint8_t x[4] = {0, 0, 1, 1}, y[4] = {0, 1, 1, 2};
     static const uint8_t drawn[27] = {9, 9, 0, 9, 9, 0, 0, 9, 9};
-    struct object_call c = {DRAW, 1, 3, 2, 1, 9, NULL, 48, NULL, 27, NULL};
+    struct object_call c = {DRAW, 1, 3, 2, 1, 9, OVER, NULL, 48, NULL, 27, NULL};
     uint8_t record[48] = {0};
     int64_t answer;
     for (int k = 0; k < 16; k++) {
@@ -1040,19 +1194,24 @@ static int document_samples(void) {
         good &= known_grey(side, ONE, (uint8_t)(side - 1));
     for (int k = 0; k < (int)(sizeof KNOWN / sizeof *KNOWN); k++)
         for (int axis = 0; axis < 3; axis++)
-            good &= known_curve(k, axis) & known_drawing(k, axis);
+            good &= known_curve(k, axis) & known_drawing(k, axis, GIDZKHALU_OVER) &
+                    known_drawing(k, axis, GIDZKHALU_UNDER);
+    for (size_t k = 0; k < sizeof CHOSEN / sizeof *CHOSEN; k++)
+        for (int axis = 0; axis < 3; axis++)
+            good &= known_choice(k, axis);
     return good;
 }
 
 /* The run */
 
 static const int CHECK_ORDER[] = {51, 11, 13, 14, 15, 0}, LIST_ORDER[] = {51, 11, 13, 22, 14, 15, 0},
-                 DRAW_ORDER[] = {51, 11, 21, 12, 13, 14, 15, 0}, CELL_ORDER[] = {53, 52, 11, 31, 32, 31, 32, 0},
+                 DRAW_ORDER[] = {51, 55, 11, 21, 12, 13, 14, 15, 0}, CELL_ORDER[] = {53, 52, 11, 31, 32, 31, 32, 0},
                  HUE_ORDER[] = {52, 11, 31, 33, 31, 32, 31, 32, 0},
                  HALF_ORDER[] = {53, 52, 31, 33, 31, 32, 31, 33, 31, 32, 0},
                  SIDE_LINE_ORDER[] = {21, 41, 42, 11, 43, 0},
                  CURVE_LINE_ORDER[] = {21, 44, 41, 42, 12, 13, 14, 15, 0}, TEXT_ORDER[] = {11, 21, 22, 0},
-                 LINE_ORDER[] = {54, 22, 0}, RECORD_ORDER[] = {51, 0}, OUT_ORDER[] = {53, 52, 0};
+                 LINE_ORDER[] = {54, 22, 0}, RECORD_ORDER[] = {51, 55, 0}, OUT_ORDER[] = {53, 52, 0},
+                 BOTH_ORDER[] = {51, 11, 21, 12, 13, 14, 15, 0};
 
 static const struct kind {
     const char *name;
@@ -1077,7 +1236,8 @@ static const struct kind {
             {"totals of a sheet", 100000, sheet_totals, {NULL, NULL}},
             {"refusal line", 1000000, refusal_line, {LINE_ORDER, NULL}},
             {"wrong lengths", 1000000, wrong_length, {RECORD_ORDER, OUT_ORDER}},
-            {"drawn over", 500000, drawn_over, {NULL, NULL}},
+            {"two drawings", 500000, two_drawings, {NULL, NULL}},
+            {"over and under", 200000, over_and_under, {BOTH_ORDER, NULL}},
             {"list of calls", 200000, list_of_calls, {DRAW_ORDER, NULL}},
             {"large curve", 100000, large_curve, {NULL, NULL}},
             {"large patch", 3000, large_patch, {NULL, NULL}},

@@ -179,6 +179,8 @@ static int steps_too_long(const struct object_call *c, const struct order *order
 static void object_order(const struct object_call *c, struct order *order, struct samples *s) {
     int wrong_record = c->points_len != (c->patch ? 48 : 12);
     order_add(order, 51, wrong_record);
+    if (c->service == DRAW)
+        order_add(order, 55, c->choice != OVER && c->choice != UNDER);
     order_add(order, 11, side_outside(c->side));
     if (c->service == DRAW) {
         order_add(order, 21, (wide)c->lent_len != volume(c->side));
@@ -201,9 +203,19 @@ static size_t place_of(const struct samples *s, size_t at, uint32_t side) {
     return place(side, s->cell[0][at], s->cell[1][at], s->cell[2][at]);
 }
 
-void mark_cells(const struct samples *s, uint32_t side, uint8_t mark, uint8_t *grid) {
+static void mark_cell(uint8_t *cell, uint8_t mark, enum choice choice) {
+    if (choice == OVER || *cell == 0)
+        *cell = mark;
+}
+
+void mark_cells(const struct samples *s, uint32_t side, uint8_t mark, enum choice choice, uint8_t *grid) {
     for (size_t at = 0; at < s->along * s->rows; at++)
-        grid[place_of(s, at, side)] = mark;
+        mark_cell(grid + place_of(s, at, side), mark, choice);
+}
+
+void mark_backwards(const struct samples *s, uint32_t side, uint8_t mark, enum choice choice, uint8_t *grid) {
+    for (size_t at = s->along * s->rows; at > 0; at--)
+        mark_cell(grid + place_of(s, at - 1, side), mark, choice);
 }
 
 /* Blocks of 64 for speed. */
@@ -222,7 +234,7 @@ size_t unmarked_cells(const uint8_t *grid, size_t len) {
 
 static void draw(const struct object_call *c, const struct samples *s) {
     size_t before = unmarked_cells(c->lent, c->lent_len), after;
-    mark_cells(s, c->side, c->mark, c->lent);
+    mark_cells(s, c->side, c->mark, (enum choice)c->choice, c->lent);
     after = unmarked_cells(c->lent, c->lent_len);
     assert(after <= before);
     *c->new_cells = (uint32_t)(before - after);
@@ -250,7 +262,7 @@ size_t different_cells(const struct samples *s, uint32_t side) {
         count += met[p] == 0;
         met[p] = 1;
     }
-    mark_cells(s, side, 0, met);
+    mark_cells(s, side, 0, OVER, met);
     return count;
 }
 
@@ -265,28 +277,73 @@ size_t turns(const struct samples *s) {
     return count;
 }
 
+int meets_mark(const struct samples *s, uint32_t side, uint8_t mark, const uint8_t *grid) {
+    for (size_t at = 0; at < s->along * s->rows; at++)
+        if (grid[place_of(s, at, side)] == mark)
+            return 1;
+    return 0;
+}
+
+/* What was met in turn: 1 a marked cell, 2 then an unmarked one, 3 then a marked one. */
+int meets_gap(const struct samples *s, uint32_t side, const uint8_t *grid) {
+    int met = 0;
+    for (size_t at = 0; at < s->along && met < 3; at++)
+        met += (grid[place_of(s, at, side)] != 0) == (met % 2 == 0);
+    return met == 3;
+}
+
 /* Demand 3 */
 
 static int within_half(wide value, wide scale, int32_t coordinate) {
     return 2 * distance(value, coordinate * scale) <= scale;
 }
 
-static int sample_holds(const struct samples *s, size_t at, uint32_t side, uint8_t mark, const uint8_t *grid) {
+static int sample_within(const struct samples *s, size_t at, uint32_t side) {
     for (int axis = 0; axis < 3; axis++) {
         int32_t cell = s->cell[axis][at];
         if (cell < 0 || (int32_t)side <= cell || !within_half(s->value[axis][at], s->scale, cell))
             return 0;
     }
-    return grid[place_of(s, at, side)] == mark;
+    return 1;
 }
 
-int samples_hold(const struct samples *s, uint32_t side, uint8_t mark, const uint8_t *grid) {
+static int cell_holds(const struct object_call *c, uint8_t before, uint8_t after) {
+    if (c->choice == OVER)
+        return after == c->mark;
+    return after != 0 && after == (before == 0 ? c->mark : before);
+}
+
+int samples_hold(const struct samples *s, const struct object_call *c, const uint8_t *before, const uint8_t *after) {
     struct neighbours neighbours = {0};
-    for (size_t at = 0; at < s->along * s->rows; at++)
-        if (!sample_holds(s, at, side, mark, grid))
+    for (size_t at = 0; at < s->along * s->rows; at++) {
+        size_t p = place_of(s, at, c->side);
+        if (!sample_within(s, at, c->side) || !cell_holds(c, before[p], after[p]))
             return 0;
+    }
     count_neighbours(s, &neighbours);
     return neighbours.apart == 0;
+}
+
+/* With the samples' cells put back, the grid is the one before. */
+int others_kept(const struct samples *s, const struct object_call *c, const uint8_t *before, const uint8_t *after) {
+    static uint8_t put_back[64 * 64 * 64];
+    memcpy(put_back, after, c->lent_len);
+    for (size_t at = 0; at < s->along * s->rows; at++) {
+        size_t p = place_of(s, at, c->side);
+        put_back[p] = before[p];
+    }
+    return memcmp(put_back, before, c->lent_len) == 0;
+}
+
+/* Blocks of 64 for speed. */
+int marks_kept(const uint8_t *before, const uint8_t *after, size_t len) {
+    uint8_t changed = 0;
+    for (; len >= 64; len -= 64, before += 64, after += 64)
+        for (int k = 0; k < 64; k++)
+            changed |= (uint8_t)((before[k] != 0) & (after[k] != before[k]));
+    while (len-- > 0)
+        changed |= (uint8_t)((before[len] != 0) & (after[len] != before[len]));
+    return !changed;
 }
 
 /* The one or two coordinates within half a cell of a value; answers their number. */
@@ -598,7 +655,7 @@ static uint32_t side_line(const struct line *line, struct order *order) {
 /* The refusals that look at a curve line's numbers; a coordinate above 255 is never below the side. */
 static void stroke_order(const uint32_t *number, uint32_t side, uint8_t *points, struct order *order) {
     static struct samples samples;
-    struct object_call curve = {CHECK, 0, side, number[1], 0, 0, points, 12, NULL, 0, NULL};
+    struct object_call curve = {CHECK, 0, side, number[1], 0, 0, OVER, points, 12, NULL, 0, NULL};
     int outside = 0, large = 0;
     for (int k = 0; k < 12; k++) {
         outside |= number[2 + k] >= side;
@@ -618,11 +675,11 @@ struct drawing {
     struct strokes strokes;
 };
 
-/* Draws a curve line that no number refuses. */
+/* Draws a curve line that no number refuses, over those before it. */
 static void draw_stroke(const uint32_t *number, const uint8_t *points, struct drawing *d) {
     static struct samples samples;
     uint32_t new_cells;
-    struct object_call curve = {DRAW,   0,  d->side, number[1], 0, (uint8_t)number[0],
+    struct object_call curve = {DRAW,   0,  d->side, number[1], 0,         (uint8_t)number[0], OVER,
                                 points, 12, d->cube, 0,         &new_cells};
     struct order unused = {0};
     curve.lent_len = (size_t)volume(d->side);

@@ -21,14 +21,16 @@ void order_add(struct order *order, int number, int applies);
 /* The first number that applies, or 0. */
 int order_first(const struct order *order);
 
-/* A call that checks, lists or draws a curve or a patch. */
+/* A call that checks, lists or draws a curve or a patch. A drawing goes over what is marked, or under it. */
 enum service { CHECK, LIST, DRAW };
+enum choice { OVER, UNDER };
 
 struct object_call {
     enum service service;
     int patch;
     uint32_t side, n, m; /* a curve has no m */
     uint8_t mark;
+    uint32_t choice; /* of a drawing; above UNDER it is refused */
     const uint8_t *points;
     size_t points_len;
     uint8_t *lent; /* the list or the grid */
@@ -64,13 +66,20 @@ int64_t reference_object(const struct object_call *call, struct order *order, st
 /* The bytes 0 of a grid. */
 size_t unmarked_cells(const uint8_t *grid, size_t len);
 
-/* Writes the mark in the cells of an accepted object. */
-void mark_cells(const struct samples *samples, uint32_t side, uint8_t mark, uint8_t *grid);
+/* Draws the samples of an accepted object in turn, or the last one first. Over writes the mark in the cell of each; under
+   writes it if the cell is unmarked at that moment. */
+void mark_cells(const struct samples *samples, uint32_t side, uint8_t mark, enum choice choice, uint8_t *grid);
+void mark_backwards(const struct samples *samples, uint32_t side, uint8_t mark, enum choice choice, uint8_t *grid);
 
 /* The cells of an accepted object: how many different ones, and how many turns to a cell from another one, the first
    included; a curve that comes back to a cell has more turns than cells. */
 size_t different_cells(const struct samples *samples, uint32_t side);
 size_t turns(const struct samples *samples);
+
+/* Whether some cell of an accepted object holds the mark, and whether a curve comes from a marked cell by an unmarked one
+   to a marked one. */
+int meets_mark(const struct samples *samples, uint32_t side, uint8_t mark, const uint8_t *grid);
+int meets_gap(const struct samples *samples, uint32_t side, const uint8_t *grid);
 
 /* Pairs of neighbouring samples along t and along u, everywhere; of both, those that lie exactly one cell apart and on
    halves on some axis, and those whose cells differ by more than one on some axis. */
@@ -81,9 +90,16 @@ struct neighbours {
 /* Adds the pairs of an accepted object. */
 void count_neighbours(const struct samples *samples, struct neighbours *neighbours);
 
-/* Demand 3, second sentence: every sample's cell is within half a cell and holds the mark, and those of neighbours differ
-   by at most one. */
-int samples_hold(const struct samples *samples, uint32_t side, uint8_t mark, const uint8_t *grid);
+/* Demand 3, second sentence, by the grid before an accepted drawing and the one after it: every sample's cell is within
+   half a cell, and those of neighbours differ by at most one. Over, the cell holds the mark; under, it is marked: it holds
+   the mark if it was unmarked, and else what it held. */
+int samples_hold(const struct samples *samples, const struct object_call *call, const uint8_t *before,
+                 const uint8_t *after);
+
+/* Whether no cell has changed but those of samples, and whether each marked cell holds what it held. */
+int others_kept(const struct samples *samples, const struct object_call *call, const uint8_t *before,
+                const uint8_t *after);
+int marks_kept(const uint8_t *before, const uint8_t *after, size_t len);
 
 /* Demand 3, first sentence: sets explained at each place that holds the mark within half a cell of a sample. */
 void explain(const struct samples *samples, uint32_t side, uint8_t mark, const uint8_t *grid, uint8_t *explained);
