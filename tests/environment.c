@@ -95,7 +95,7 @@ static void keep_numbers(void) {
 /* Each function: inputs from the case, the call under the environment, the inputs in words */
 
 static int64_t object(enum environment e, enum service service, int patch) {
-    struct object_call c = {service, patch, 0, 0, 0, 0, record, 0, NULL, 0, NULL};
+    struct object_call c = {service, patch, 0, 0, 0, 0, OVER, record, 0, NULL, 0, NULL};
     int large = one_in(64);
     volatile int64_t answer;
     c.side = large ? 33 + below(32) : random_side();
@@ -107,16 +107,18 @@ static int64_t object(enum environment e, enum service service, int patch) {
         UNDER(e, &answer, gidzkhalu_check_patch(c.side, record, c.points_len, c.n, c.m));
     else if (patch)
         UNDER(e, &answer,
-              gidzkhalu_draw_patch(c.side, record, c.points_len, c.n, c.m, c.mark, now, c.lent_len, &new_cells));
+              gidzkhalu_draw_patch(c.side, record, c.points_len, c.n, c.m, c.mark, c.choice, now, c.lent_len,
+                                   &new_cells));
     else if (service == CHECK)
         UNDER(e, &answer, gidzkhalu_check_curve(c.side, record, c.points_len, c.n));
     else if (service == LIST)
         UNDER(e, &answer, gidzkhalu_list_curve(c.side, record, c.points_len, c.n, now, c.lent_len));
     else
         UNDER(e, &answer,
-              gidzkhalu_draw_curve(c.side, record, c.points_len, c.n, c.mark, now, c.lent_len, &new_cells));
+              gidzkhalu_draw_curve(c.side, record, c.points_len, c.n, c.mark, c.choice, now, c.lent_len, &new_cells));
     keep_numbers();
-    snprintf(words, WORDS, "side %" PRIu32 ", n %" PRIu32 ", m %" PRIu32 ", mark %d", c.side, c.n, c.m, c.mark);
+    snprintf(words, WORDS, "side %" PRIu32 ", n %" PRIu32 ", m %" PRIu32 ", mark %d, choice %" PRIu32, c.side, c.n, c.m,
+             c.mark, c.choice);
     return answer;
 }
 

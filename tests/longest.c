@@ -48,8 +48,8 @@ static void fill_grid(uint8_t byte) {
 
 /* Curves: the most steps at the largest side, so that no step is long and all samples are walked. A sample takes longer
    where its cell moves, down more than up. Of all curves of one axis FALLS has the most moves down; UP_AND_DOWN and
-   DOWN_AND_UP have the most where a move down takes twice as much more as a move up. Each is drawn into an unmarked grid,
-   where its cells are new, and into a marked one. */
+   DOWN_AND_UP have the most where a move down takes twice as much more as a move up. Each is drawn over and under, into an
+   unmarked grid, where its cells are new, and into a marked one. */
 enum pattern { FALLS, UP_AND_DOWN, DOWN_AND_UP, RISES, STAYS, PATTERNS };
 
 static const char *const PATTERN[PATTERNS] = {"falls", "up and down", "down and up", "rises", "stays"};
@@ -86,34 +86,47 @@ static void print_axes(struct axes axes) {
     printf("x %s, y %s, z %s\n", PATTERN[axes.x], PATTERN[axes.y], PATTERN[axes.z]);
 }
 
-/* service: 0 check, 1 list, 2 draw, into a grid that holds one byte. */
-static void curve(int service, uint32_t steps, struct axes axes, uint8_t held) {
+/* How an object is drawn: by its choice, into a grid that holds one byte. */
+struct drawing {
+    uint32_t choice;
+    uint8_t held;
+};
+
+static const struct drawing DRAWINGS[] = {
+    {GIDZKHALU_OVER, 0}, {GIDZKHALU_OVER, 1}, {GIDZKHALU_UNDER, 0}, {GIDZKHALU_UNDER, 1}};
+
+static void print_drawing(struct drawing drawing) {
+    printf("%s, cells %s, ", drawing.choice == GIDZKHALU_OVER ? "over" : "under",
+           drawing.held == 0 ? "unmarked" : "marked");
+}
+
+/* service: 0 check, 1 list, 2 draw. */
+static void curve(int service, uint32_t steps, struct axes axes, struct drawing drawing) {
     uint8_t points[GIDZKHALU_CURVE_BYTES];
     int64_t answer;
     for (int k = 0; k < 4; k++)
         put_point(points + 3 * k, axes, k, SIDE - 1);
-    fill_grid(held);
+    fill_grid(drawing.held);
     if (service == 0)
         answer = gidzkhalu_check_curve(SIDE, points, sizeof points, steps);
     else if (service == 1)
         answer = gidzkhalu_list_curve(SIDE, points, sizeof points, steps, text, GIDZKHALU_LIST_BYTES(steps));
     else
-        answer = gidzkhalu_draw_curve(SIDE, points, sizeof points, steps, 255, grid, sizeof grid, &new_cells);
+        answer = gidzkhalu_draw_curve(SIDE, points, sizeof points, steps, 255, drawing.choice, grid, sizeof grid,
+                                      &new_cells);
     printf("%" PRId64 ": side %d, %" PRIu32 " steps, ", answer, SIDE, steps);
     if (service == 2)
-        printf("cells %s, ", held == 0 ? "unmarked" : "marked");
+        print_drawing(drawing);
     print_axes(axes);
 }
 
 /* The last curve has the latest long step that there is: the last of 187, on z. */
 static void curves(int service) {
     struct axes late = {STAYS, STAYS, RISES};
-    for (int number = 0; number < COMBINATIONS; number++) {
-        curve(service, GIDZKHALU_CURVE_STEPS_MOST, axes_of(number), 0);
-        if (service == 2)
-            curve(service, GIDZKHALU_CURVE_STEPS_MOST, axes_of(number), 1);
-    }
-    curve(service, 187, late, 0);
+    for (int number = 0; number < COMBINATIONS; number++)
+        for (size_t k = 0; k < (service == 2 ? SIZE(DRAWINGS) : 1); k++)
+            curve(service, GIDZKHALU_CURVE_STEPS_MOST, axes_of(number), DRAWINGS[k]);
+    curve(service, 187, late, DRAWINGS[0]);
 }
 
 static void check_curves(void) { curves(0); }
@@ -122,13 +135,14 @@ static void draw_curves(void) { curves(2); }
 
 /* Patches: as curves, 256 x 256 steps, every row the same along t. Along u there is one walk, through the rows' first
    cells, so moves there count for little: some patches have them, and stay along t. */
-static void draw_patch(const uint8_t points[GIDZKHALU_PATCH_BYTES], uint8_t held) {
+static void draw_patch(const uint8_t points[GIDZKHALU_PATCH_BYTES], struct drawing drawing) {
     uint32_t most = GIDZKHALU_PATCH_STEPS_MOST;
     int64_t answer;
-    fill_grid(held);
-    answer = gidzkhalu_draw_patch(SIDE, points, GIDZKHALU_PATCH_BYTES, most, most, 255, grid, sizeof grid, &new_cells);
-    printf("%" PRId64 ": side %d, %" PRIu32 " x %" PRIu32 " steps, cells %s, ", answer, SIDE, most, most,
-           held == 0 ? "unmarked" : "marked");
+    fill_grid(drawing.held);
+    answer = gidzkhalu_draw_patch(SIDE, points, GIDZKHALU_PATCH_BYTES, most, most, 255, drawing.choice, grid,
+                                  sizeof grid, &new_cells);
+    printf("%" PRId64 ": side %d, %" PRIu32 " x %" PRIu32 " steps, ", answer, SIDE, most, most);
+    print_drawing(drawing);
 }
 
 static void check_patch(const uint8_t points[GIDZKHALU_PATCH_BYTES]) {
@@ -137,12 +151,13 @@ static void check_patch(const uint8_t points[GIDZKHALU_PATCH_BYTES]) {
            gidzkhalu_check_patch(SIDE, points, GIDZKHALU_PATCH_BYTES, most, most), SIDE, most, most);
 }
 
-static void patch(int draws, int along_u, struct axes axes, uint8_t held) {
+/* drawing: NULL for a check. */
+static void patch(int along_u, struct axes axes, const struct drawing *drawing) {
     uint8_t points[GIDZKHALU_PATCH_BYTES];
     for (int k = 0; k < 16; k++)
         put_point(points + 3 * k, axes, along_u ? k % 4 : k / 4, SIDE - 1);
-    if (draws)
-        draw_patch(points, held);
+    if (drawing != NULL)
+        draw_patch(points, *drawing);
     else
         check_patch(points);
     printf("along %s ", along_u ? "u" : "t");
@@ -150,14 +165,14 @@ static void patch(int draws, int along_u, struct axes axes, uint8_t held) {
 }
 
 /* z of a patch most rows of which turn back once as they fall: 64 moves down and one up, where FALLS has 63 down. */
-static void turning_patch(struct axes axes, uint8_t held) {
+static void turning_patch(struct axes axes, struct drawing drawing) {
     static const uint8_t z[16] = {63, 62, 63, 63, 0, 0, 0, 0, 63, 63, 63, 63, 0, 1, 0, 0};
     uint8_t points[GIDZKHALU_PATCH_BYTES];
     for (int k = 0; k < 16; k++) {
         put_point(points + 3 * k, axes, k / 4, SIDE - 1);
         points[3 * k + 2] = z[k];
     }
-    draw_patch(points, held);
+    draw_patch(points, drawing);
     printf("along t x %s, y %s, z falls and turns back once\n", PATTERN[axes.x], PATTERN[axes.y]);
 }
 
@@ -165,27 +180,27 @@ static void turning_patch(struct axes axes, uint8_t held) {
 static void check_patches(void) {
     for (int pattern = 0; pattern < PATTERNS; pattern++) {
         struct axes axes = {(enum pattern)pattern, (enum pattern)pattern, (enum pattern)pattern};
-        patch(0, 0, axes, 0);
-        patch(0, 1, axes, 0);
+        patch(0, axes, NULL);
+        patch(1, axes, NULL);
     }
 }
 
-static void draw_patches_into(uint8_t held) {
+static void draw_patches_as(struct drawing drawing) {
     for (int number = 0; number < COMBINATIONS; number++) {
         struct axes axes = axes_of(number);
         if (axes.x != STAYS && axes.y != STAYS && axes.z != STAYS)
-            patch(1, 0, axes, held);
+            patch(0, axes, &drawing);
     }
     for (int pattern = 0; pattern < PATTERNS; pattern++) {
         struct axes axes = {(enum pattern)pattern, (enum pattern)pattern, (enum pattern)pattern};
-        patch(1, 1, axes, held);
-        turning_patch(axes, held);
+        patch(1, axes, &drawing);
+        turning_patch(axes, drawing);
     }
 }
 
 static void draw_patches(void) {
-    draw_patches_into(0);
-    draw_patches_into(1);
+    for (size_t k = 0; k < SIZE(DRAWINGS); k++)
+        draw_patches_as(DRAWINGS[k]);
 }
 
 /* Swatches: no loops. A hue is compared with the whole numbers in turn, and each row of channels has a path of its own; a

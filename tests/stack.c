@@ -5,7 +5,7 @@
    value of one paint shows with the other. Counted are the bytes from the stack pointer just before the call
    instruction down to the lowest byte that changed: the return address, the frame, the callees, and what is written
    below the stack pointer. Room that is reserved below that byte and never written does not show. Not counted are the
-   arguments that the caller puts on the stack, which lie above: 8 bytes for list_part, 16 for draw_curve, 24 for
+   arguments that the caller puts on the stack, which lie above: 8 bytes for list_part, 24 for draw_curve, 32 for
    draw_patch. Of memset, which is all that the library takes from outside, the return address is counted: the memset of
    this file takes no more. A call that needs more than the painted room ends the run by a signal. For x86-64 and Linux
    alone. */
@@ -23,12 +23,12 @@
 
 /* Calls on the painted stack */
 
-/* Words 0 to 5 go in registers, 6 to 8 on the stack; the reals are bit patterns of f32. */
+/* Words 0 to 5 go in registers, 6 to 9 on the stack; the reals are bit patterns of f32. */
 struct call {
-    uint64_t function, word[9], real[6];
+    uint64_t function, word[10], real[6];
 };
 
-/* Makes the call with the stack pointer at top, above which are four words of room: the three words and the caller's
+/* Makes the call with the stack pointer at top, above which are five words of room: the four words and the caller's
    stack pointer. The registers that the callee has to keep are 0 meanwhile, so that none of them holds a paint. */
 int64_t call_at(const struct call *call, uint8_t *top);
 
@@ -51,10 +51,12 @@ __asm__(".text\n"
         "    movq 56(%rax), %rcx\n"
         "    movq 64(%rax), %rdx\n"
         "    movq 72(%rax), %r8\n"
+        "    movq 80(%rax), %r9\n"
         "    movq %rcx, 0(%rsi)\n"
         "    movq %rdx, 8(%rsi)\n"
         "    movq %r8, 16(%rsi)\n"
-        "    movq %rsp, 24(%rsi)\n"
+        "    movq %r9, 24(%rsi)\n"
+        "    movq %rsp, 32(%rsi)\n"
         "    movq %rsi, %rsp\n"
         "    movq 8(%rax), %rdi\n"
         "    movq 16(%rax), %rsi\n"
@@ -62,12 +64,12 @@ __asm__(".text\n"
         "    movq 32(%rax), %rcx\n"
         "    movq 40(%rax), %r8\n"
         "    movq 48(%rax), %r9\n"
-        "    movss 80(%rax), %xmm0\n"
-        "    movss 88(%rax), %xmm1\n"
-        "    movss 96(%rax), %xmm2\n"
-        "    movss 104(%rax), %xmm3\n"
-        "    movss 112(%rax), %xmm4\n"
-        "    movss 120(%rax), %xmm5\n"
+        "    movss 88(%rax), %xmm0\n"
+        "    movss 96(%rax), %xmm1\n"
+        "    movss 104(%rax), %xmm2\n"
+        "    movss 112(%rax), %xmm3\n"
+        "    movss 120(%rax), %xmm4\n"
+        "    movss 128(%rax), %xmm5\n"
         "    xorl %ebx, %ebx\n"
         "    xorl %ebp, %ebp\n"
         "    xorl %r12d, %r12d\n"
@@ -75,7 +77,7 @@ __asm__(".text\n"
         "    xorl %r14d, %r14d\n"
         "    xorl %r15d, %r15d\n"
         "    call *(%rax)\n"
-        "    movq 24(%rsp), %rsp\n"
+        "    movq 32(%rsp), %rsp\n"
         "    popq %r15\n"
         "    popq %r14\n"
         "    popq %r13\n"
@@ -147,7 +149,7 @@ enum function {
     FUNCTIONS
 };
 
-enum { NUMBERS = 55, WORDS = 100 };
+enum { NUMBERS = 56, WORDS = 100 };
 
 static struct figure {
     const char *name;
@@ -159,9 +161,9 @@ static struct figure {
 } figures[FUNCTIONS] = {
     {"check_curve", {0, 51, 11, 13, 14, 15}, -1, 0, 0, {0}, 0, ""},
     {"list_curve", {0, 51, 11, 13, 22, 14, 15}, -1, 0, 0, {0}, 0, ""},
-    {"draw_curve", {0, 51, 11, 21, 12, 13, 14, 15}, -1, 0, 0, {0}, 0, ""},
+    {"draw_curve", {0, 51, 55, 11, 21, 12, 13, 14, 15}, -1, 0, 0, {0}, 0, ""},
     {"check_patch", {0, 51, 11, 13, 14, 15}, -1, 0, 0, {0}, 0, ""},
-    {"draw_patch", {0, 51, 11, 21, 12, 13, 14, 15}, -1, 0, 0, {0}, 0, ""},
+    {"draw_patch", {0, 51, 55, 11, 21, 12, 13, 14, 15}, -1, 0, 0, {0}, 0, ""},
     {"to_cell", {0, 53, 52, 11, 31, 33, 32}, -1, 0, 0, {0}, 0, ""},
     {"half_way", {0, 53, 52, 31, 33, 32}, -1, 0, 0, {0}, 0, ""},
     {"draw_sheet", {0, 21, 41, 42, 11, 43, 44, 12, 13, 14, 15}, -1, 0, 0, {0}, 0, ""},
@@ -226,33 +228,40 @@ enum { CELLS = GIDZKHALU_CUBE_BYTES(GIDZKHALU_SIDE_MOST), GRID = 300001 };
 static uint8_t grid[GRID]; /* the grid or the list */
 static uint32_t new_cells, detail;
 
+/* A number of 32 bits in a word: above it a caller may leave anything. */
+static uint64_t half_word(uint32_t number) { return UINT64_C(0x3C3C3C3C00000000) | number; }
+
 static void measure_object(const struct object_call *c) {
     uint64_t p = PLACE(c->points), len = c->points_len, g = PLACE(c->lent), g_len = c->lent_len;
+    uint64_t side = half_word(c->side), n = half_word(c->n), m = half_word(c->m), choice = half_word(c->choice);
     if (!c->patch && c->service == CHECK) {
-        struct call call = {(uint64_t)gidzkhalu_check_curve, {c->side, p, len, c->n}, {0}};
+        struct call call = {(uint64_t)gidzkhalu_check_curve, {side, p, len, n}, {0}};
         measure(CHECK_CURVE, gidzkhalu_check_curve(c->side, c->points, len, c->n), &call,
                 "side %" PRIu32 ", n %" PRIu32, c->side, c->n);
     } else if (!c->patch && c->service == LIST) {
-        struct call call = {(uint64_t)gidzkhalu_list_curve, {c->side, p, len, c->n, g, g_len}, {0}};
+        struct call call = {(uint64_t)gidzkhalu_list_curve, {side, p, len, n, g, g_len}, {0}};
         measure(LIST_CURVE, gidzkhalu_list_curve(c->side, c->points, len, c->n, c->lent, g_len), &call,
                 "side %" PRIu32 ", n %" PRIu32, c->side, c->n);
     } else if (!c->patch) {
         struct call call = {(uint64_t)gidzkhalu_draw_curve,
-                            {c->side, p, len, c->n, c->mark, g, g_len, PLACE(&new_cells)},
+                            {side, p, len, n, c->mark, choice, g, g_len, PLACE(&new_cells)},
                             {0}};
-        measure(DRAW_CURVE, gidzkhalu_draw_curve(c->side, c->points, len, c->n, c->mark, c->lent, g_len, &new_cells),
-                &call, "side %" PRIu32 ", n %" PRIu32 ", mark %d", c->side, c->n, c->mark);
+        measure(DRAW_CURVE,
+                gidzkhalu_draw_curve(c->side, c->points, len, c->n, c->mark, c->choice, c->lent, g_len, &new_cells),
+                &call, "side %" PRIu32 ", n %" PRIu32 ", mark %d, choice %" PRIu32, c->side, c->n, c->mark, c->choice);
     } else if (c->service == CHECK) {
-        struct call call = {(uint64_t)gidzkhalu_check_patch, {c->side, p, len, c->n, c->m}, {0}};
+        struct call call = {(uint64_t)gidzkhalu_check_patch, {side, p, len, n, m}, {0}};
         measure(CHECK_PATCH, gidzkhalu_check_patch(c->side, c->points, len, c->n, c->m), &call,
                 "side %" PRIu32 ", n %" PRIu32 ", m %" PRIu32, c->side, c->n, c->m);
     } else {
         struct call call = {(uint64_t)gidzkhalu_draw_patch,
-                            {c->side, p, len, c->n, c->m, c->mark, g, g_len, PLACE(&new_cells)},
+                            {side, p, len, n, m, c->mark, choice, g, g_len, PLACE(&new_cells)},
                             {0}};
-        measure(DRAW_PATCH,
-                gidzkhalu_draw_patch(c->side, c->points, len, c->n, c->m, c->mark, c->lent, g_len, &new_cells), &call,
-                "side %" PRIu32 ", n %" PRIu32 ", m %" PRIu32 ", mark %d", c->side, c->n, c->m, c->mark);
+        int64_t answer = gidzkhalu_draw_patch(c->side, c->points, len, c->n, c->m, c->mark, c->choice, c->lent, g_len,
+                                              &new_cells);
+        measure(DRAW_PATCH, answer, &call,
+                "side %" PRIu32 ", n %" PRIu32 ", m %" PRIu32 ", mark %d, choice %" PRIu32, c->side, c->n, c->m, c->mark,
+                c->choice);
     }
 }
 
@@ -288,11 +297,18 @@ static uint8_t patterned(enum pattern pattern, size_t k, size_t count, uint32_t 
     }
 }
 
-/* The call as it is, and with each wrong mark, length of the record and length of the list or grid. */
+/* The call as it is, a drawing over and under, and with each wrong choice, mark, length of the record and length of the
+   list or grid. */
 static void measure_with_faults(const struct object_call *right) {
+    static const uint32_t choices[] = {UNDER, 2, 0xFFFFFFFF};
     static const size_t lengths[] = {0, 11, 12, 13, 47, 48, 49};
     struct object_call c = *right;
     measure_object(&c);
+    for (size_t k = 0; k < SIZE(choices) && c.service == DRAW; k++) {
+        c.choice = choices[k];
+        measure_object(&c);
+    }
+    c.choice = right->choice;
     c.mark = 0;
     measure_object(&c);
     c.mark = 255;
@@ -332,13 +348,14 @@ static void chosen_objects(enum service service, int patch) {
         for (size_t n = 0; n < many; n++)
             for (size_t m = 0; m < (patch ? many : 1); m++)
                 for (int pattern = 0; pattern < PATTERNS; pattern++) {
-                    struct object_call c = {service, patch, SIDES[s], counts[n], counts[m], 0, NULL, 0, NULL, 0, NULL};
+                    struct object_call c = {service, patch, SIDES[s], counts[n], counts[m], 0,
+                                            OVER,    NULL,  0,        NULL,      0,         NULL};
                     chosen_object(&c, points, (enum pattern)pattern);
                 }
 }
 
 static void random_object_call(enum service service, int patch) {
-    struct object_call c = {service, patch, 0, 0, 0, 0, NULL, 0, grid, 0, NULL};
+    struct object_call c = {service, patch, 0, 0, 0, 0, OVER, NULL, 0, grid, 0, NULL};
     uint8_t points[64];
     int large = one_in(16);
     c.side = large ? 33 + below(32) : random_side();
