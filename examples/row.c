@@ -1,12 +1,33 @@
-/* Draws K12's patch, x of g(i, j) = i + j with n = m = 4, and prints how many cells are new and the cells of its row 2.
-   y and z are chosen so that row 2 has a line of the cube of its own: y of g(i, j) = j, z = 2 for j = 2 and 0 otherwise;
-   its line is y = 1, z = 1. Drawn once more with another mark, the patch has no new cell. */
+/* Draws K12's patch, x of g(i, j) = i + j with n = m = 4, over what the grid holds. y and z are chosen so that its row 2 has
+   a line of the cube of its own: y of g(i, j) = j, z = 2 for j = 2 and 0 otherwise; the line is y = 1, z = 1. A curve along
+   the whole line then goes under: it marks the cells that row 2 has left, and row 2 keeps its marks. After each drawing
+   the number of its samples, how many cells are new, and what the line holds are printed. */
 #include "gidzkhalu.h"
 #include <stdio.h>
 
+enum { SIDE = 8 };
+
+static int print_drawing(const char *name, int64_t answer, uint32_t new_cells, const uint8_t *line) {
+    if (answer == -GIDZKHALU_REFUSED_LONG_STEP) {
+        printf("%s: refused, too few steps\n", name);
+        return 1;
+    }
+    if (answer < 0) {
+        printf("%s: refused, %d\n", name, (int)-answer);
+        return 1;
+    }
+    printf("%s: %d samples, %d new cells; the line holds", name, (int)answer, (int)new_cells);
+    for (int x = 0; x < SIDE; x++) {
+        printf(" %d", line[x]);
+    }
+    printf("\n");
+    return 0;
+}
+
 int main(void) {
-    enum { SIDE = 8 };
+    static const uint8_t along[GIDZKHALU_CURVE_BYTES] = {0, 1, 1, 2, 1, 1, 5, 1, 1, 7, 1, 1};
     static uint8_t grid[GIDZKHALU_CUBE_BYTES(SIDE)];
+    const uint8_t *line = grid + SIDE * 1 + SIDE * SIDE * 1;
     uint8_t points[GIDZKHALU_PATCH_BYTES];
     for (int i = 0; i < 4; i++) {
         for (int j = 0; j < 4; j++) {
@@ -16,24 +37,12 @@ int main(void) {
             p[2] = j == 2 ? 2 : 0;
         }
     }
-    uint32_t new_cells;
-    int64_t answer = gidzkhalu_draw_patch(SIDE, points, sizeof points, 4, 4, 7, grid, sizeof grid, &new_cells);
-    if (answer == -GIDZKHALU_REFUSED_LONG_STEP) {
-        printf("refused: too few steps\n");
+    uint32_t new_cells = 0;
+    int64_t answer =
+        gidzkhalu_draw_patch(SIDE, points, sizeof points, 4, 4, 7, GIDZKHALU_OVER, grid, sizeof grid, &new_cells);
+    if (print_drawing("patch over", answer, new_cells, line) != 0) {
         return 1;
     }
-    if (answer < 0) {
-        printf("refused: %d\n", (int)-answer);
-        return 1;
-    }
-    printf("%d samples, %d new cells; row 2 marks x =", (int)answer, (int)new_cells);
-    for (int x = 0; x < SIDE; x++) {
-        if (grid[x + SIDE * 1 + SIDE * SIDE * 1] != 0) {
-            printf(" %d", x);
-        }
-    }
-    printf("\n");
-    gidzkhalu_draw_patch(SIDE, points, sizeof points, 4, 4, 8, grid, sizeof grid, &new_cells);
-    printf("drawn once more: %d new cells\n", (int)new_cells);
-    return 0;
+    answer = gidzkhalu_draw_curve(SIDE, along, sizeof along, 9, 8, GIDZKHALU_UNDER, grid, sizeof grid, &new_cells);
+    return print_drawing("curve under", answer, new_cells, line);
 }
