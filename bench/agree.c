@@ -15,7 +15,7 @@ static const struct box library = BOX(gidzkhalu), exact[] = {BOX(same), BOX(dire
 
 /* The arguments of the next call. */
 static struct {
-    uint32_t side, n, m, kind, kind2, number, line;
+    uint32_t side, n, m, choice, kind, kind2, number, line;
     uint8_t points[49], mark;
     size_t points_len, lent_len, cube_len, first, count, input_len;
     float a[6];
@@ -43,7 +43,7 @@ static answer call_list_curve(const struct box *box, uint8_t *lent)
 
 static answer call_draw_curve(const struct box *box, uint8_t *lent)
 {
-    return box->draw_curve(in.side, in.points, in.points_len, in.n, in.mark, lent, in.lent_len, &new_cells);
+    return box->draw_curve(in.side, in.points, in.points_len, in.n, in.mark, in.choice, lent, in.lent_len, &new_cells);
 }
 
 static answer call_check_patch(const struct box *box, uint8_t *lent)
@@ -54,7 +54,8 @@ static answer call_check_patch(const struct box *box, uint8_t *lent)
 
 static answer call_draw_patch(const struct box *box, uint8_t *lent)
 {
-    return box->draw_patch(in.side, in.points, in.points_len, in.n, in.m, in.mark, lent, in.lent_len, &new_cells);
+    return box->draw_patch(in.side, in.points, in.points_len, in.n, in.m, in.mark, in.choice, lent, in.lent_len,
+                           &new_cells);
 }
 
 static answer call_to_cell(const struct box *box, uint8_t *lent)
@@ -154,6 +155,13 @@ static void take_cube(uint32_t side, const uint8_t *cube)
     memcpy(in.cube, cube, in.cube_len);
 }
 
+/* A drawing over and under. */
+static void agree_on_choices(const char *name, call_fn *call)
+{
+    for (in.choice = OVER; in.choice <= UNDER; in.choice++)
+        agree(name, call, ROOM);
+}
+
 static void agree_on_curve(int k)
 {
     take_curve(k);
@@ -161,7 +169,7 @@ static void agree_on_curve(int k)
     in.lent_len = 3 * (STEPS + 1);
     agree("list_curve", call_list_curve, in.lent_len + 1);
     in.lent_len = CELLS;
-    agree("draw_curve", call_draw_curve, ROOM);
+    agree_on_choices("draw_curve", call_draw_curve);
 }
 
 static void agree_on_patch(int set, int k)
@@ -169,7 +177,7 @@ static void agree_on_patch(int set, int k)
     take_patch(set, k);
     in.lent_len = CELLS;
     agree("check_patch", call_check_patch, 0);
-    agree("draw_patch", call_draw_patch, ROOM);
+    agree_on_choices("draw_patch", call_draw_patch);
 }
 
 static void agree_on_swatches(int set, size_t i, uint32_t kind)
@@ -249,6 +257,13 @@ static uint32_t some_count(uint32_t most)
     return 1 + random_below(rarely(4) ? most : 60);
 }
 
+static uint32_t some_choice(void)
+{
+    if (rarely(20))
+        return rarely(2) ? 2 + random_below(300) : (uint32_t)random_bits() | 2;
+    return random_below(2);
+}
+
 /* The points of a record lie near one another, so that many are accepted with few steps. */
 static void some_record(int points, uint32_t most)
 {
@@ -261,6 +276,7 @@ static void some_record(int points, uint32_t most)
         in.points[random_below(3 * (uint32_t)points)] = (uint8_t)(side + random_below(3));
     in.points_len = 3 * (size_t)points + (rarely(30) ? 1 : 0);
     in.mark = (uint8_t)(rarely(20) ? 0 : 1 + random_below(255));
+    in.choice = some_choice();
     in.lent_len = (size_t)in.side * in.side * in.side;
     if (in.lent_len > CELLS || rarely(30))
         in.lent_len = 27 + random_below(2);
@@ -431,11 +447,13 @@ static size_t wrong(size_t len, size_t group)
     return count;
 }
 
-/* The call by library and (c), each on room bytes of 0. Answers the new cells of the library's, if it is a drawing. */
-static uint32_t both(call_fn *call, size_t room)
+static const uint8_t zeros[ROOM];
+
+/* The call by library and (c), each on the same room bytes. Answers the new cells of the library's, if it is a drawing. */
+static uint32_t both(call_fn *call, const uint8_t *held, size_t room)
 {
-    memset(expected, 0, room);
-    memset(after, 0, room);
+    memcpy(expected, held, room);
+    memcpy(after, held, room);
     call(&library, expected);
     uint32_t marked = new_cells;
     call(&usual, after);
@@ -453,23 +471,37 @@ static void wrong_curves(void)
     for (int k = 0; k < CURVES; k++) {
         take_curve(k);
         in.lent_len = 3 * (STEPS + 1);
-        both(call_list_curve, in.lent_len);
+        both(call_list_curve, zeros, in.lent_len);
         count += wrong(in.lent_len, 3);
     }
     say_wrong("curves, n = 512: cells of samples", count, CURVES * (STEPS + 1));
 }
 
-static void wrong_patches(int set)
+/* Half of the cells are marked before. */
+static void wrong_curves_under(void)
 {
     size_t count = 0, of = 0;
+    in.choice = UNDER;
+    for (int k = 0; k < CURVES; k++) {
+        take_curve(k);
+        in.lent_len = CELLS;
+        of += both(call_draw_curve, before, CELLS);
+        count += wrong(CELLS, 1);
+    }
+    say_wrong("curves, n = 512, under: cells marked or left", count, of);
+}
+
+static void wrong_patches(int set, uint32_t choice, const char *what)
+{
+    size_t count = 0, of = 0;
+    in.choice = choice;
     for (int k = 0; k < PATCHES; k++) {
         take_patch(set, k);
         in.lent_len = CELLS;
-        of += both(call_draw_patch, CELLS);
+        of += both(call_draw_patch, choice == OVER ? zeros : before, CELLS);
         count += wrong(CELLS, 1);
     }
-    say_wrong(set == 0 ? "patches, 64 × 64: cells marked or left" : "patches, 256 × 256: cells marked or left", count,
-              of);
+    say_wrong(what, count, of);
 }
 
 static void wrong_swatches(int set, uint32_t kind, const char *cells, const char *mixes)
@@ -478,10 +510,10 @@ static void wrong_swatches(int set, uint32_t kind, const char *cells, const char
     for (size_t i = 0; i < swatches; i++) {
         take_swatches(set, i, kind);
         in.lent_len = 3;
-        both(call_to_cell, 3);
+        both(call_to_cell, zeros, 3);
         count += wrong(3, 3);
         in.lent_len = 12;
-        both(call_half_way, 12);
+        both(call_half_way, zeros, 12);
         mixed += wrong(12, 12);
     }
     say_wrong(cells, count, swatches);
@@ -493,7 +525,7 @@ static void wrong_sheets(int set)
     size_t count = 0, of = 0;
     for (int k = 0; k < SHEETS; k++) {
         take_sheet(set, k);
-        of += both(call_draw_sheet, SHEET_CELLS);
+        of += both(call_draw_sheet, zeros, SHEET_CELLS);
         count += wrong(SHEET_CELLS, 1);
     }
     say_wrong(set == 0 ? "sheets, sparse: cells marked or left" : "sheets, dense: cells marked or left", count, of);
@@ -505,7 +537,7 @@ static void wrong_totals(void)
     for (int k = 0; k < CUBES; k++) {
         take_cube(SIDE, full_cubes[k]);
         in.lent_len = TOTALS_TEXT + 1;
-        both(call_totals, in.lent_len);
+        both(call_totals, zeros, in.lent_len);
         count += wrong(TOTALS_TEXT, TOTALS_LINE);
     }
     say_wrong("totals, side 64: lines", count, CUBES * 256);
@@ -515,8 +547,11 @@ void count_wrong_cells(void)
 {
     printf("| (c) gets wrong | wrong | of |\n|---|---|---|\n");
     wrong_curves();
-    wrong_patches(0);
-    wrong_patches(1);
+    wrong_curves_under();
+    wrong_patches(0, OVER, "patches, 64 × 64: cells marked or left");
+    wrong_patches(0, UNDER, "patches, 64 × 64, under: cells marked or left");
+    wrong_patches(1, OVER, "patches, 256 × 256: cells marked or left");
+    wrong_patches(1, UNDER, "patches, 256 × 256, under: cells marked or left");
     wrong_swatches(BRIGHT, 0, "swatches, bright: cells", "swatches, bright: half-way");
     wrong_swatches(DARK, 0, "swatches, dark: cells", "swatches, dark: half-way");
     wrong_swatches(HUES, 2, "hues: cells", "hues: half-way");

@@ -33,14 +33,52 @@ static uint8_t *out;
 /* The sum of answers, so that no call is left out. */
 static answer total;
 
+/* Processor time, which leaves out what other programs take. */
+static double nanoseconds(void)
+{
+    struct timespec t;
+    clock_gettime(CLOCK_PROCESS_CPUTIME_ID, &t);
+    return 1e9 * (double)t.tv_sec + (double)t.tv_nsec;
+}
+
+/* The time that a run spent on filling the grid, which is not counted. */
+static double filling;
+
+static void fill_grid(uint8_t byte)
+{
+    double begin = nanoseconds();
+    memset(grid, byte, CELLS);
+    filling += nanoseconds() - begin;
+}
+
 /* Each run answers how many units it did: samples, calls or sheets. */
 
-static size_t draw_curves(const struct box *box, int set)
+/* A choice, and what the grid holds before a drawing. */
+enum { OVER_UNMARKED, OVER_MARKED, UNDER_UNMARKED, UNDER_MARKED };
+
+static uint32_t choice_of(int way)
+{
+    return way == OVER_UNMARKED || way == OVER_MARKED ? OVER : UNDER;
+}
+
+/* Before drawing k of a run: marked cells stay marked; unmarked ones are cleared before every so many drawings. */
+static void prepare_grid(int way, int k, int together)
+{
+    if (way == OVER_UNMARKED || way == UNDER_UNMARKED) {
+        if (k % together == 0)
+            fill_grid(0);
+    } else if (k == 0) {
+        fill_grid(255);
+    }
+}
+
+static size_t draw_curves(const struct box *box, int way)
 {
     uint32_t new_cells;
-    (void)set;
-    for (int k = 0; k < CURVES; k++)
-        total += box->draw_curve(SIDE, curves[k], 12, STEPS, 1, grid, CELLS, &new_cells);
+    for (int k = 0; k < CURVES; k++) {
+        prepare_grid(way, k, 16);
+        total += box->draw_curve(SIDE, curves[k], 12, STEPS, 1, choice_of(way), grid, CELLS, &new_cells);
+    }
     return CURVES * (STEPS + 1);
 }
 
@@ -61,23 +99,34 @@ static size_t check_curves(const struct box *box, int set)
 }
 
 /* Set 0 has 64 × 64 steps, set 1 256 × 256, and fewer patches are enough. */
-static size_t draw_patches(const struct box *box, int set)
+static size_t draw_patches(const struct box *box, int set, int way)
 {
-    uint32_t n = set == 0 ? 64 : 256;
-    size_t count = set == 0 ? PATCHES : PATCHES / 4;
-    uint32_t new_cells;
-    for (size_t k = 0; k < count; k++)
-        total += box->draw_patch(SIDE, patches[set][k], 48, n, n, 1, grid, CELLS, &new_cells);
-    return count * (n + 1) * (n + 1);
+    uint32_t n = set == 0 ? 64 : 256, new_cells;
+    int count = set == 0 ? PATCHES : PATCHES / 4;
+    for (int k = 0; k < count; k++) {
+        prepare_grid(way, k, 1);
+        total += box->draw_patch(SIDE, patches[set][k], 48, n, n, 1, choice_of(way), grid, CELLS, &new_cells);
+    }
+    return (size_t)count * (n + 1) * (n + 1);
+}
+
+static size_t small_patches(const struct box *box, int way)
+{
+    return draw_patches(box, 0, way);
+}
+
+static size_t large_patches(const struct box *box, int way)
+{
+    return draw_patches(box, 1, way);
 }
 
 static size_t check_patches(const struct box *box, int set)
 {
     uint32_t n = set == 0 ? 64 : 256;
-    size_t count = set == 0 ? PATCHES : PATCHES / 4;
-    for (size_t k = 0; k < count; k++)
+    int count = set == 0 ? PATCHES : PATCHES / 4;
+    for (int k = 0; k < count; k++)
         total += box->check_patch(SIDE, patches[set][k], 48, n, n);
-    return count * (n + 1) * (n + 1);
+    return (size_t)count * (n + 1) * (n + 1);
 }
 
 static size_t cells_of(const struct box *box, int set, uint32_t kind)
@@ -173,15 +222,24 @@ static size_t total_cubes(const struct box *box, int set)
 static const struct row {
     const char *name, *unit, *functions;
     size_t (*run)(const struct box *box, int set);
-    int set;
+    int set;   /* of inputs, or the way of a drawing */
     int boxes; /* 3 where (c) has nothing to compare */
 } rows[] = {
-    {"draw a curve, n = 512, side 64", "sample", "draw_curve", draw_curves, 0, 4},
+    {"draw a curve, n = 512, side 64, over, cells unmarked", "sample", "draw_curve", draw_curves, OVER_UNMARKED, 4},
+    {"draw it over, cells marked", "sample", "draw_curve", draw_curves, OVER_MARKED, 4},
+    {"draw it under, cells unmarked", "sample", "draw_curve", draw_curves, UNDER_UNMARKED, 4},
+    {"draw it under, cells marked", "sample", "draw_curve", draw_curves, UNDER_MARKED, 4},
     {"list it", "sample", "list_curve", list_curves, 0, 4},
     {"check it", "sample", "check_curve", check_curves, 0, 3},
-    {"draw a patch, 64 × 64, side 64", "sample", "draw_patch", draw_patches, 0, 4},
+    {"draw a patch, 64 × 64, side 64, over, cells unmarked", "sample", "draw_patch", small_patches, OVER_UNMARKED, 4},
+    {"draw it over, cells marked", "sample", "draw_patch", small_patches, OVER_MARKED, 4},
+    {"draw it under, cells unmarked", "sample", "draw_patch", small_patches, UNDER_UNMARKED, 4},
+    {"draw it under, cells marked", "sample", "draw_patch", small_patches, UNDER_MARKED, 4},
     {"check it", "sample", "check_patch", check_patches, 0, 3},
-    {"draw a patch, 256 × 256, side 64", "sample", "draw_patch", draw_patches, 1, 4},
+    {"draw a patch, 256 × 256, side 64, over, cells unmarked", "sample", "draw_patch", large_patches, OVER_UNMARKED, 4},
+    {"draw it over, cells marked", "sample", "draw_patch", large_patches, OVER_MARKED, 4},
+    {"draw it under, cells unmarked", "sample", "draw_patch", large_patches, UNDER_UNMARKED, 4},
+    {"draw it under, cells marked", "sample", "draw_patch", large_patches, UNDER_MARKED, 4},
     {"check it", "sample", "check_patch", check_patches, 1, 3},
     {"swatch to cell, colour, bright", "call", "to_cell", color_cells, BRIGHT, 4},
     {"swatch to cell, colour, dark", "call", "to_cell", color_cells, DARK, 4},
@@ -220,14 +278,6 @@ static void make(size_t swatch_count)
         }
 }
 
-/* Processor time, which leaves out what other programs take. */
-static double nanoseconds(void)
-{
-    struct timespec t;
-    clock_gettime(CLOCK_PROCESS_CPUTIME_ID, &t);
-    return 1e9 * (double)t.tv_sec + (double)t.tv_nsec;
-}
-
 /* One round: all boxes one after the other, in an order drawn anew. */
 static void time_round(const struct row *row, double times[BOXES])
 {
@@ -235,9 +285,10 @@ static void time_round(const struct row *row, double times[BOXES])
     for (int k = 0; k < BOXES; k++) {
         int other = k + (int)random_below((uint32_t)(BOXES - k)), box = order[other];
         order[other] = order[k];
+        filling = 0;
         double begin = nanoseconds();
         size_t units = row->run(&boxes[box], row->set);
-        times[box] = (nanoseconds() - begin) / (double)units;
+        times[box] = (nanoseconds() - begin - filling) / (double)units;
     }
 }
 

@@ -9,14 +9,17 @@
 /* A count, or minus a refusal's number. */
 typedef int64_t answer;
 
+/* Choices of a drawing. */
+enum { OVER, UNDER };
+
 typedef answer check_curve_fn(uint32_t side, const uint8_t *points, size_t points_len, uint32_t steps);
 typedef answer list_curve_fn(uint32_t side, const uint8_t *points, size_t points_len, uint32_t steps, uint8_t *list,
                              size_t list_len);
 typedef answer draw_curve_fn(uint32_t side, const uint8_t *points, size_t points_len, uint32_t steps, uint8_t mark,
-                             uint8_t *grid, size_t grid_len, uint32_t *new_cells);
+                             uint32_t choice, uint8_t *grid, size_t grid_len, uint32_t *new_cells);
 typedef answer check_patch_fn(uint32_t side, const uint8_t *points, size_t points_len, uint32_t n, uint32_t m);
 typedef answer draw_patch_fn(uint32_t side, const uint8_t *points, size_t points_len, uint32_t n, uint32_t m,
-                             uint8_t mark, uint8_t *grid, size_t grid_len, uint32_t *new_cells);
+                             uint8_t mark, uint32_t choice, uint8_t *grid, size_t grid_len, uint32_t *new_cells);
 typedef answer to_cell_fn(uint32_t side, uint32_t kind, float a, float b, float c, uint8_t *cell, size_t cell_len);
 typedef answer half_way_fn(uint32_t kind, float a, float b, float c, uint32_t kind2, float a2, float b2, float c2,
                            uint8_t *channels, size_t channels_len);

@@ -2,7 +2,7 @@
    prefix, and before it:
      curves    step_too_long, list_samples, mark_samples
      patches   patch_step_too_long, mark_rows
-               mark_samples and mark_rows answer how many cells are new
+               mark_samples and mark_rows go over or under and answer how many cells are new
      swatches  refusal_of_one and refusal_of_three, 0 or the number of channels; refusal_of_hue, of hue, saturation and
                value; coordinate; mix, of two channels */
 #ifndef CALLS_H
@@ -41,16 +41,18 @@ answer CALL(list_curve)(uint32_t side, const uint8_t *points, size_t points_len,
 }
 
 answer CALL(draw_curve)(uint32_t side, const uint8_t *points, size_t points_len, uint32_t steps, uint8_t mark,
-                        uint8_t *grid, size_t grid_len, uint32_t *new_cells)
+                        uint32_t choice, uint8_t *grid, size_t grid_len, uint32_t *new_cells)
 {
     if (points_len != 12)
         return -51;
+    if (choice > UNDER)
+        return -55;
     int refusal = order_of_drawing(side, points, 12, grid_len, mark, is_count_out(512, steps));
     if (refusal != 0)
         return -refusal;
     if (step_too_long(points, steps))
         return -15;
-    *new_cells = mark_samples(side, points, steps, mark, grid);
+    *new_cells = mark_samples(side, points, steps, mark, choice == UNDER, grid);
     return (answer)steps + 1;
 }
 
@@ -67,16 +69,18 @@ answer CALL(check_patch)(uint32_t side, const uint8_t *points, size_t points_len
 }
 
 answer CALL(draw_patch)(uint32_t side, const uint8_t *points, size_t points_len, uint32_t n, uint32_t m, uint8_t mark,
-                        uint8_t *grid, size_t grid_len, uint32_t *new_cells)
+                        uint32_t choice, uint8_t *grid, size_t grid_len, uint32_t *new_cells)
 {
     if (points_len != 48)
         return -51;
+    if (choice > UNDER)
+        return -55;
     int refusal = order_of_drawing(side, points, 48, grid_len, mark, is_count_out(256, n) || is_count_out(256, m));
     if (refusal != 0)
         return -refusal;
     if (patch_step_too_long(points, n, m))
         return -15;
-    *new_cells = mark_rows(side, points, n, m, mark, grid);
+    *new_cells = mark_rows(side, points, n, m, mark, choice == UNDER, grid);
     return (answer)((n + 1) * (m + 1));
 }
 

@@ -2,14 +2,15 @@
 #ifndef CELL_H
 #define CELL_H
 
+#include <stdbool.h>
 #include <stdint.h>
 
-/* Marks a cell; answers 1 if it was unmarked, or 0. */
-static inline uint32_t mark_cell(uint8_t *cell, uint8_t mark)
+/* Marks a cell over what it holds, or under it: a marked cell then keeps its mark. Answers 1 if it was unmarked, or 0. */
+static inline uint32_t mark_cell(uint8_t *cell, uint8_t mark, bool under)
 {
-    uint32_t was_unmarked = *cell == 0;
-    *cell = mark;
-    return was_unmarked;
+    uint8_t held = *cell;
+    *cell = under && held != 0 ? held : mark;
+    return held == 0;
 }
 
 #endif

@@ -51,7 +51,7 @@ static bool step_too_long(const uint8_t *points, uint32_t n)
     return false;
 }
 
-static uint32_t mark_samples(uint32_t side, const uint8_t *points, uint32_t n, uint8_t mark, uint8_t *grid)
+static uint32_t mark_samples(uint32_t side, const uint8_t *points, uint32_t n, uint8_t mark, bool under, uint8_t *grid)
 {
     int64_t s = side, scale = cubed(n), x = points[0], y = points[1], z = points[2];
     uint32_t new_cells = 0;
@@ -59,7 +59,7 @@ static uint32_t mark_samples(uint32_t side, const uint8_t *points, uint32_t n, u
         x = move(x, sample(points, n, i), scale);
         y = move(y, sample(points + 1, n, i), scale);
         z = move(z, sample(points + 2, n, i), scale);
-        new_cells += mark_cell(grid + (x + s * y + s * s * z), mark);
+        new_cells += mark_cell(grid + (x + s * y + s * s * z), mark, under);
     }
     return new_cells;
 }
@@ -118,20 +118,21 @@ static bool patch_step_too_long(const uint8_t *points, uint32_t n, uint32_t m)
 }
 
 static uint32_t mark_row(const int64_t gx[4], const int64_t gy[4], const int64_t gz[4], const int64_t start[3],
-                         uint32_t n, int64_t scale, int64_t s, uint8_t mark, uint8_t *grid)
+                         uint32_t n, int64_t scale, int64_t s, uint8_t mark, bool under, uint8_t *grid)
 {
     int64_t x = start[0], y = start[1], z = start[2];
-    uint32_t new_cells = mark_cell(grid + (x + s * y + s * s * z), mark);
+    uint32_t new_cells = mark_cell(grid + (x + s * y + s * s * z), mark, under);
     for (uint32_t i = 1; i <= n; i++) {
         x = move(x, row_sample(gx, n, i), scale);
         y = move(y, row_sample(gy, n, i), scale);
         z = move(z, row_sample(gz, n, i), scale);
-        new_cells += mark_cell(grid + (x + s * y + s * s * z), mark);
+        new_cells += mark_cell(grid + (x + s * y + s * s * z), mark, under);
     }
     return new_cells;
 }
 
-static uint32_t mark_rows(uint32_t side, const uint8_t *points, uint32_t n, uint32_t m, uint8_t mark, uint8_t *grid)
+static uint32_t mark_rows(uint32_t side, const uint8_t *points, uint32_t n, uint32_t m, uint8_t mark, bool under,
+                          uint8_t *grid)
 {
     int64_t scale = cubed(n) * cubed(m), g[3][4];
     int64_t start[3] = {points[0], points[1], points[2]};
@@ -141,7 +142,7 @@ static uint32_t mark_rows(uint32_t side, const uint8_t *points, uint32_t n, uint
             row_controls(points + a, m, j, g[a]);
             start[a] = move(start[a], row_sample(g[a], n, 0), scale);
         }
-        new_cells += mark_row(g[0], g[1], g[2], start, n, scale, side, mark, grid);
+        new_cells += mark_row(g[0], g[1], g[2], start, n, scale, side, mark, under, grid);
     }
     return new_cells;
 }

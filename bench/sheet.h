@@ -126,7 +126,7 @@ static uint32_t draw_lines(const uint8_t *input, uint32_t side, uint32_t curves,
     for (uint32_t k = 0; k < curves; k++) {
         struct curve curve;
         if (read_curve(input + FIRST + LINE * k, &curve))
-            new_cells += mark_samples(side, curve.points, curve.steps, curve.mark, cube);
+            new_cells += mark_samples(side, curve.points, curve.steps, curve.mark, false, cube);
     }
     return new_cells;
 }

@@ -30,13 +30,13 @@ static inline size_t rounded(const uint8_t *points, float t)
     return nearest(blend(t, points[0], points[3], points[6], points[9]));
 }
 
-static uint32_t mark_samples(uint32_t side, const uint8_t *points, uint32_t n, uint8_t mark, uint8_t *grid)
+static uint32_t mark_samples(uint32_t side, const uint8_t *points, uint32_t n, uint8_t mark, bool under, uint8_t *grid)
 {
     uint32_t new_cells = 0;
     for (uint32_t i = 0; i <= n; i++) {
         float t = (float)i / (float)n;
         size_t x = rounded(points, t), y = rounded(points + 1, t), z = rounded(points + 2, t);
-        new_cells += mark_cell(grid + (x + side * (y + side * z)), mark);
+        new_cells += mark_cell(grid + (x + side * (y + side * z)), mark, under);
     }
     return new_cells;
 }
@@ -69,7 +69,8 @@ static inline size_t rounded_in_row(const float g[4], float t)
     return nearest(blend(t, g[0], g[1], g[2], g[3]));
 }
 
-static uint32_t mark_rows(uint32_t side, const uint8_t *points, uint32_t n, uint32_t m, uint8_t mark, uint8_t *grid)
+static uint32_t mark_rows(uint32_t side, const uint8_t *points, uint32_t n, uint32_t m, uint8_t mark, bool under,
+                          uint8_t *grid)
 {
     uint32_t new_cells = 0;
     for (uint32_t j = 0; j <= m; j++) {
@@ -80,7 +81,7 @@ static uint32_t mark_rows(uint32_t side, const uint8_t *points, uint32_t n, uint
         for (uint32_t i = 0; i <= n; i++) {
             float t = (float)i / (float)n;
             size_t x = rounded_in_row(gx, t), y = rounded_in_row(gy, t), z = rounded_in_row(gz, t);
-            new_cells += mark_cell(grid + (x + side * (y + side * z)), mark);
+            new_cells += mark_cell(grid + (x + side * (y + side * z)), mark, under);
         }
     }
     return new_cells;
@@ -170,7 +171,7 @@ answer usual_draw_sheet(const uint8_t *input, size_t input_len, uint8_t *buffer,
         *detail = (uint32_t)lines + 2;
         if (!read_curve(input + at, input_len - at, side, &curve))
             return -42;
-        marked += mark_samples(side, curve.points, curve.steps, curve.mark, buffer);
+        marked += mark_samples(side, curve.points, curve.steps, curve.mark, false, buffer);
     }
     *detail = side;
     *new_cells = marked;
