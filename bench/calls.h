@@ -52,7 +52,10 @@ answer CALL(draw_curve)(uint32_t side, const uint8_t *points, size_t points_len,
         return -refusal;
     if (step_too_long(points, steps))
         return -15;
-    *new_cells = mark_samples(side, points, steps, mark, choice == UNDER, grid);
+    if (choice == UNDER)
+        *new_cells = mark_samples(side, points, steps, mark, true, grid);
+    else
+        *new_cells = mark_samples(side, points, steps, mark, false, grid);
     return (answer)steps + 1;
 }
 
@@ -80,7 +83,10 @@ answer CALL(draw_patch)(uint32_t side, const uint8_t *points, size_t points_len,
         return -refusal;
     if (patch_step_too_long(points, n, m))
         return -15;
-    *new_cells = mark_rows(side, points, n, m, mark, choice == UNDER, grid);
+    if (choice == UNDER)
+        *new_cells = mark_rows(side, points, n, m, mark, true, grid);
+    else
+        *new_cells = mark_rows(side, points, n, m, mark, false, grid);
     return (answer)((n + 1) * (m + 1));
 }
 

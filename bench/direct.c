@@ -51,7 +51,8 @@ static bool step_too_long(const uint8_t *points, uint32_t n)
     return false;
 }
 
-static uint32_t mark_samples(uint32_t side, const uint8_t *points, uint32_t n, uint8_t mark, bool under, uint8_t *grid)
+static INLINED uint32_t mark_samples(uint32_t side, const uint8_t *points, uint32_t n, uint8_t mark, bool under,
+                                     uint8_t *grid)
 {
     int64_t s = side, scale = cubed(n), x = points[0], y = points[1], z = points[2];
     uint32_t new_cells = 0;
@@ -117,8 +118,9 @@ static bool patch_step_too_long(const uint8_t *points, uint32_t n, uint32_t m)
     return false;
 }
 
-static uint32_t mark_row(const int64_t gx[4], const int64_t gy[4], const int64_t gz[4], const int64_t start[3],
-                         uint32_t n, int64_t scale, int64_t s, uint8_t mark, bool under, uint8_t *grid)
+static INLINED uint32_t mark_row(const int64_t gx[4], const int64_t gy[4], const int64_t gz[4],
+                                 const int64_t start[3], uint32_t n, int64_t scale, int64_t s, uint8_t mark, bool under,
+                                 uint8_t *grid)
 {
     int64_t x = start[0], y = start[1], z = start[2];
     uint32_t new_cells = mark_cell(grid + (x + s * y + s * s * z), mark, under);
@@ -131,8 +133,8 @@ static uint32_t mark_row(const int64_t gx[4], const int64_t gy[4], const int64_t
     return new_cells;
 }
 
-static uint32_t mark_rows(uint32_t side, const uint8_t *points, uint32_t n, uint32_t m, uint8_t mark, bool under,
-                          uint8_t *grid)
+static INLINED uint32_t mark_rows(uint32_t side, const uint8_t *points, uint32_t n, uint32_t m, uint8_t mark,
+                                  bool under, uint8_t *grid)
 {
     int64_t scale = cubed(n) * cubed(m), g[3][4];
     int64_t start[3] = {points[0], points[1], points[2]};

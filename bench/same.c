@@ -91,10 +91,9 @@ static inline void step(struct cubic *c, int64_t scale, int64_t stride, int64_t 
     }
 }
 
-/* Marks the cells of a row, sample 0 and n steps; answers how many are new. Where it is called, under is a constant: each
-   choice has a loop of its own. */
-static inline uint32_t mark_row(struct cubic x, struct cubic y, struct cubic z, int64_t place, uint32_t n,
-                                int64_t scale, int64_t side, uint8_t mark, bool under, uint8_t *grid)
+/* Marks the cells of a row, sample 0 and n steps; answers how many are new. */
+static INLINED uint32_t mark_row(struct cubic x, struct cubic y, struct cubic z, int64_t place, uint32_t n,
+                                 int64_t scale, int64_t side, uint8_t mark, bool under, uint8_t *grid)
 {
     uint32_t new_cells = mark_cell(grid + place, mark, under);
     for (; n > 0; n--) {
@@ -129,13 +128,11 @@ static inline struct cubic start_walk(const uint8_t *points, uint32_t n)
     return c;
 }
 
-static uint32_t mark_samples(uint32_t side, const uint8_t *points, uint32_t n, uint8_t mark, bool under, uint8_t *grid)
+static INLINED uint32_t mark_samples(uint32_t side, const uint8_t *points, uint32_t n, uint8_t mark, bool under,
+                                     uint8_t *grid)
 {
-    int64_t scale = cubed(n), place = first_place(points, side);
-    struct cubic x = start_walk(points, n), y = start_walk(points + 1, n), z = start_walk(points + 2, n);
-    if (under)
-        return mark_row(x, y, z, place, n, scale, side, mark, true, grid);
-    return mark_row(x, y, z, place, n, scale, side, mark, false, grid);
+    return mark_row(start_walk(points, n), start_walk(points + 1, n), start_walk(points + 2, n),
+                    first_place(points, side), n, cubed(n), side, mark, under, grid);
 }
 
 static inline void put_cell(uint8_t *list, int64_t x, int64_t y, int64_t z)
@@ -233,17 +230,14 @@ static inline struct surface start_rows(const uint8_t *points, uint32_t n, uint3
     return s;
 }
 
-static uint32_t mark_rows(uint32_t side, const uint8_t *points, uint32_t n, uint32_t m, uint8_t mark, bool under,
-                          uint8_t *grid)
+static INLINED uint32_t mark_rows(uint32_t side, const uint8_t *points, uint32_t n, uint32_t m, uint8_t mark,
+                                  bool under, uint8_t *grid)
 {
     int64_t h = side, scale = cubed(n) * cubed(m), place = first_place(points, h);
     struct surface x = start_rows(points, n, m), y = start_rows(points + 1, n, m), z = start_rows(points + 2, n, m);
     uint32_t new_cells = 0;
     for (;; m--) {
-        if (under)
-            new_cells += mark_row(row(&x), row(&y), row(&z), place, n, scale, h, mark, true, grid);
-        else
-            new_cells += mark_row(row(&x), row(&y), row(&z), place, n, scale, h, mark, false, grid);
+        new_cells += mark_row(row(&x), row(&y), row(&z), place, n, scale, h, mark, under, grid);
         if (m == 0)
             return new_cells;
         step_row(&x, scale, 1, &place);

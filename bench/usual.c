@@ -30,7 +30,8 @@ static inline size_t rounded(const uint8_t *points, float t)
     return nearest(blend(t, points[0], points[3], points[6], points[9]));
 }
 
-static uint32_t mark_samples(uint32_t side, const uint8_t *points, uint32_t n, uint8_t mark, bool under, uint8_t *grid)
+static INLINED uint32_t mark_samples(uint32_t side, const uint8_t *points, uint32_t n, uint8_t mark, bool under,
+                                     uint8_t *grid)
 {
     uint32_t new_cells = 0;
     for (uint32_t i = 0; i <= n; i++) {
@@ -69,8 +70,8 @@ static inline size_t rounded_in_row(const float g[4], float t)
     return nearest(blend(t, g[0], g[1], g[2], g[3]));
 }
 
-static uint32_t mark_rows(uint32_t side, const uint8_t *points, uint32_t n, uint32_t m, uint8_t mark, bool under,
-                          uint8_t *grid)
+static INLINED uint32_t mark_rows(uint32_t side, const uint8_t *points, uint32_t n, uint32_t m, uint8_t mark,
+                                  bool under, uint8_t *grid)
 {
     uint32_t new_cells = 0;
     for (uint32_t j = 0; j <= m; j++) {
