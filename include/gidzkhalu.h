@@ -142,7 +142,7 @@ int64_t gidzkhalu_check_patch(uint32_t side, const uint8_t *points, size_t point
 /* Draws a patch, over or under, and writes the count of new cells, from 0 to (n + 1) (m + 1), into *new_cells. Answer:
    (n + 1) (m + 1).
    Refusals: 51, 55, 11, 21, 12, 13, 14, 15.
-   Stack: 1720 bytes. Instructions: 6471098. Environment: any. */
+   Stack: 1720 bytes. Instructions: 6526029. Environment: any. */
 int64_t gidzkhalu_draw_patch(uint32_t side, const uint8_t *points, size_t points_len, uint32_t n, uint32_t m,
                              uint8_t mark, uint32_t choice, uint8_t *grid, size_t grid_len, uint32_t *new_cells);
 

@@ -262,8 +262,7 @@ static void bad_coordinate(const struct object_call *call, uint8_t *points) {
 
 /* Among them those that are a choice in their low byte or low two bytes. */
 static uint32_t bad_choice(void) {
-    static const uint32_t choices[] = {2,   2,   3,     254,   255,        256,
-                                       257, 258, 65536, 65537, 0x80000000, 0xFFFFFFFF};
+    static const uint32_t choices[] = {2, 2, 3, 254, 255, 256, 257, 258, 65536, 65537, 0x80000000, 0xFFFFFFFF};
     return one_in(4) ? 2 + below(0xFFFFFFFE) : PICK(choices);
 }
 

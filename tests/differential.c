@@ -1065,8 +1065,7 @@ static int known_choice(size_t k, int axis) {
         return known_failed("K1, over or under");
     for (size_t at = 0; at < 4; at++)
         held[stride[axis] * at] = CHOSEN[k].after[at];
-    return (memcmp(grid.got, held, sizeof held) == 0 &&
-            (answer < 0 || *number_at(new_cells.got) == CHOSEN[k].count)) ||
+    return (memcmp(grid.got, held, sizeof held) == 0 && (answer < 0 || *number_at(new_cells.got) == CHOSEN[k].count)) ||
            known_failed("K1, over or under");
 }
 

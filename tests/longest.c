@@ -49,7 +49,8 @@ static void fill_grid(uint8_t byte) {
 /* Curves: the most steps at the largest side, so that no step is long and all samples are walked. A sample takes longer
    where its cell moves, down more than up. Of all curves of one axis FALLS has the most moves down; UP_AND_DOWN and
    DOWN_AND_UP have the most where a move down takes twice as much more as a move up. Each is drawn over and under, into an
-   unmarked grid, where its cells are new, and into a marked one. */
+   unmarked grid, where its cells are new, and into a marked one. Under, a sample takes longer where its cell is new: a
+   curve and a patch that wind through many cells are there as well. */
 enum pattern { FALLS, UP_AND_DOWN, DOWN_AND_UP, RISES, STAYS, PATTERNS };
 
 static const char *const PATTERN[PATTERNS] = {"falls", "up and down", "down and up", "rises", "stays"};
@@ -101,23 +102,34 @@ static void print_drawing(struct drawing drawing) {
 }
 
 /* service: 0 check, 1 list, 2 draw. */
-static void curve(int service, uint32_t steps, struct axes axes, struct drawing drawing) {
-    uint8_t points[GIDZKHALU_CURVE_BYTES];
+static void curve_of(int service, uint32_t steps, const uint8_t points[GIDZKHALU_CURVE_BYTES], struct drawing drawing) {
+    size_t len = GIDZKHALU_CURVE_BYTES;
     int64_t answer;
-    for (int k = 0; k < 4; k++)
-        put_point(points + 3 * k, axes, k, SIDE - 1);
     fill_grid(drawing.held);
     if (service == 0)
-        answer = gidzkhalu_check_curve(SIDE, points, sizeof points, steps);
+        answer = gidzkhalu_check_curve(SIDE, points, len, steps);
     else if (service == 1)
-        answer = gidzkhalu_list_curve(SIDE, points, sizeof points, steps, text, GIDZKHALU_LIST_BYTES(steps));
+        answer = gidzkhalu_list_curve(SIDE, points, len, steps, text, GIDZKHALU_LIST_BYTES(steps));
     else
-        answer = gidzkhalu_draw_curve(SIDE, points, sizeof points, steps, 255, drawing.choice, grid, sizeof grid,
-                                      &new_cells);
+        answer = gidzkhalu_draw_curve(SIDE, points, len, steps, 255, drawing.choice, grid, sizeof grid, &new_cells);
     printf("%" PRId64 ": side %d, %" PRIu32 " steps, ", answer, SIDE, steps);
     if (service == 2)
         print_drawing(drawing);
+}
+
+static void curve(int service, uint32_t steps, struct axes axes, struct drawing drawing) {
+    uint8_t points[GIDZKHALU_CURVE_BYTES];
+    for (int k = 0; k < 4; k++)
+        put_point(points + 3 * k, axes, k, SIDE - 1);
+    curve_of(service, steps, points, drawing);
     print_axes(axes);
+}
+
+/* 242 different cells. */
+static void winding_curve(struct drawing drawing) {
+    static const uint8_t points[GIDZKHALU_CURVE_BYTES] = {63, 63, 63, 3, 2, 0, 0, 0, 4, 62, 61, 63};
+    curve_of(2, GIDZKHALU_CURVE_STEPS_MOST, points, drawing);
+    printf("winds through many cells\n");
 }
 
 /* The last curve has the latest long step that there is: the last of 187, on z. */
@@ -131,7 +143,12 @@ static void curves(int service) {
 
 static void check_curves(void) { curves(0); }
 static void list_curves(void) { curves(1); }
-static void draw_curves(void) { curves(2); }
+
+static void draw_curves(void) {
+    curves(2);
+    for (size_t k = 0; k < SIZE(DRAWINGS); k++)
+        winding_curve(DRAWINGS[k]);
+}
 
 /* Patches: as curves, 256 x 256 steps, every row the same along t. Along u there is one walk, through the rows' first
    cells, so moves there count for little: some patches have them, and stay along t. */
@@ -176,6 +193,15 @@ static void turning_patch(struct axes axes, struct drawing drawing) {
     printf("along t x %s, y %s, z falls and turns back once\n", PATTERN[axes.x], PATTERN[axes.y]);
 }
 
+/* 14520 different cells. x falls and rises along t, y rises and falls; z rises and falls along u. */
+static void winding_patch(struct drawing drawing) {
+    static const uint8_t points[GIDZKHALU_PATCH_BYTES] = {63, 1,  0,  63, 2,  63, 62, 0,  63, 63, 63, 63, 3,  63, 1, 0,
+                                                          63, 63, 0,  63, 63, 0,  63, 1,  0,  63, 0,  1,  63, 63, 0, 63,
+                                                          63, 0,  63, 1,  60, 0,  0,  63, 1,  63, 63, 0,  61, 0,  0, 0};
+    draw_patch(points, drawing);
+    printf("winds through many cells\n");
+}
+
 /* A check has no cells, and its step test takes all samples of an accepted patch alike. */
 static void check_patches(void) {
     for (int pattern = 0; pattern < PATTERNS; pattern++) {
@@ -196,6 +222,7 @@ static void draw_patches_as(struct drawing drawing) {
         patch(1, axes, &drawing);
         turning_patch(axes, drawing);
     }
+    winding_patch(drawing);
 }
 
 static void draw_patches(void) {

@@ -679,8 +679,8 @@ struct drawing {
 static void draw_stroke(const uint32_t *number, const uint8_t *points, struct drawing *d) {
     static struct samples samples;
     uint32_t new_cells;
-    struct object_call curve = {DRAW,   0,  d->side, number[1], 0,         (uint8_t)number[0], OVER,
-                                points, 12, d->cube, 0,         &new_cells};
+    struct object_call curve = {DRAW, 0,      d->side, number[1], 0, (uint8_t)number[0],
+                                OVER, points, 12,      d->cube,   0, &new_cells};
     struct order unused = {0};
     curve.lent_len = (size_t)volume(d->side);
     reference_object(&curve, &unused, &samples);
