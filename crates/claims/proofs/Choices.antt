@@ -15,7 +15,8 @@ use Rattle.drawing.proofs.Cells.{cell-inside}
 use Rattle.drawing.proofs.Marked as marks
 use Rattle.drawing.proofs.Drawn.{PlaceOfSample, drawn-holds, drawn-there, drawn-in-any-order}
 use Rattle.drawing.proofs.Choices as choices
-use Rattle.claims.specs.Choices.{CellOfSample, OverOrUnder, Claim}
+use Rattle.claims.specs.NewCells.{CellOfSample}
+use Rattle.claims.specs.Choices.{OverOrUnder, Claim}
 
 module _ (S : ℕ) (o : Object) (grid : List ℕ) (e : drawVerdict S (length grid) o ≡ accepted) where
   -- What the drawing leaves at the place of a sample's cell.

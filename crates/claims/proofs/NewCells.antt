@@ -47,17 +47,19 @@ module _ (S : ℕ) (o : Object) (grid : List ℕ) (e : drawVerdict S (length gri
         are-different = different-map (cellAt S) (place S) (place-of-cell S) (n .places) (n .different);
         are-these = λ c. (
           λ m. let w = Memᴰ·of-map (cellAt S) (n .places) m in
-              let p = n .are (w .0) .0 (w .1) in
-              record {
-                sample = p .0 .sample;
-                is-sample = p .0 .is-sample;
-                is-its-cell = sym (w .2) ∙ ap (cellAt S) (p .0 .at) ∙ cell-there (p .0 .is-sample);
-                is-unmarked = ap (λ q. getD grid q 0) (ap (place S) (sym (w .2)) ∙ place-of-cell S (w .0)) ∙ p .1;
-              },
-          λ u. let p : PlaceOfSample S o (place S c) =
-              record { sample = u .sample; is-sample = u .is-sample; at = ap (place S) (u .is-its-cell) } in
-              Memᴰ·cast (u .is-its-cell ∙ sym (cell-there (u .is-sample)) ∙ ap (λ d. cellAt S (place S d)) (sym (u .is-its-cell)))
-              (Memᴰ·map (cellAt S) (n .are (place S c) .1 (p, u .is-unmarked))),
+              let p = n .are (w .0) .0 (w .1) in (
+                record {
+                  sample = p .0 .sample;
+                  is-sample = p .0 .is-sample;
+                  is-its-cell = sym (w .2) ∙ ap (cellAt S) (p .0 .at) ∙ cell-there (p .0 .is-sample);
+                },
+                ap (λ q. getD grid q 0) (ap (place S) (sym (w .2)) ∙ place-of-cell S (w .0)) ∙ p .1,
+              ),
+          λ u. let s = u .0 in
+              let p : PlaceOfSample S o (place S c) =
+              record { sample = s .sample; is-sample = s .is-sample; at = ap (place S) (s .is-its-cell) } in
+              Memᴰ·cast (s .is-its-cell ∙ sym (cell-there (s .is-sample)) ∙ ap (λ d. cellAt S (place S d)) (sym (s .is-its-cell)))
+              (Memᴰ·map (cellAt S) (n .are (place S c) .1 (p, u .1))),
         );
         so-many = sym (new-of grid (drawn S o grid) (n .count)) ∙ sym (length-map (n .places) (cellAt S));
       }

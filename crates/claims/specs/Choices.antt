@@ -4,22 +4,16 @@ use mathlib.Core.Logic.{_↔_}
 use mathlib.Core.List.{List, map, List·Memᴰ}
 use Prim.Native.Nat.{ℕ}
 use lib.ListN.{length, getD}
-use Rattle.bezier.specs.Exact.{Sample}
 use Rattle.decide.specs.Refusal.{accepted}
 use Rattle.cube.specs.Cube.{Cell, Inside, place}
 use Rattle.drawing.specs.declared.Choice.{Choice}
 use Rattle.drawing.specs.declared.Choice.the-variants.{Over, Under}
-use Rattle.drawing.specs.Object.{Object, cellOf, going}
+use Rattle.drawing.specs.Object.{Object, going}
 use Rattle.drawing.specs.Refusals.{drawVerdict, listVerdict, checkVerdict}
 use Rattle.drawing.specs.Drawing.{marked, drawn, listed}
 use Rattle.drawing.specs.NewCells.{newCells}
 use Rattle.sheet.specs.Sheet.{Stroke, objectOf}
-
--- A cell is that of one of the object's samples.
-pub record CellOfSample (o : Object) (c : Cell) : Type 0 where
-  pub sample : List ℕ
-  pub is-sample : Sample (o .counts) sample
-  pub is-its-cell : c ≡ cellOf o sample
+use Rattle.claims.specs.NewCells.{CellOfSample}
 
 -- What an accepted drawing does to the cells of a cube of side S. Under, a cell that was marked holds what it held; one of
 -- the samples' cells that was unmarked holds the mark. Over, each of the samples' cells holds the mark. Either way no

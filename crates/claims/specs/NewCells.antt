@@ -17,12 +17,11 @@ use Rattle.sheet.specs.Printed.{cubeOf, listing, markedCells}
 use Rattle.sheet.specs.Call.{newCellsOf}
 use Rattle.totals.specs.Totals.{count}
 
--- A cell is that of one of the object's samples, and the grid holds 0 there.
-pub record UnmarkedCellOfSample (S : ℕ) (o : Object) (grid : List ℕ) (c : Cell) : Type 0 where
+-- A cell is that of one of the object's samples.
+pub record CellOfSample (o : Object) (c : Cell) : Type 0 where
   pub sample : List ℕ
   pub is-sample : Sample (o .counts) sample
   pub is-its-cell : c ≡ cellOf o sample
-  pub is-unmarked : getD grid (place S c) 0 ≡ 0
 
 -- An accepted drawing leaves at most as many unmarked cells as there were, and the difference is the number of different
 -- cells among its samples' that were unmarked.
@@ -30,7 +29,7 @@ pub record TurnsToMarked (S : ℕ) (o : Object) (grid : List ℕ) : Type 0 where
   pub at-most : unmarkedCells (drawn S o grid) ≤ unmarkedCells grid
   pub cells : List Cell
   pub are-different : Different cells
-  pub are-these : (c : Cell) → List·Memᴰ c cells ↔ UnmarkedCellOfSample S o grid c
+  pub are-these : (c : Cell) → List·Memᴰ c cells ↔ (CellOfSample o c × (getD grid (place S c) 0 ≡ 0))
   pub so-many : newCells grid (drawn S o grid) ≡ length cells
 
 -- Over the strokes of a sheet, from its cleared cube, the counts add up to the marked cells of the cube; these are the
