@@ -1,0 +1,5 @@
+-- `Weights`: a step of a curve is a sum of the gaps between its points. `Largest`: the largest gap in words. `Quits`: where
+-- the test quits no step is too long.
+pub mod Weights
+pub mod Largest
+pub mod Quits
