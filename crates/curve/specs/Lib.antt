@@ -1,3 +1,4 @@
--- `Curve`: what a curve record stands for. `Machine`: what the machine starts from, and within which limits.
+-- `Curve`: what a curve record stands for, and what its test and a check of it answer. `Machine`: what the machine starts
+-- from, and within which limits.
 pub mod Curve
 pub mod Machine

@@ -1,12 +1,35 @@
-// The step test.
+// The test of one curve: its steps.
 ghost use mathlib.Core.Path.{_≡_};
 ghost use Prim.Native.Nat.{_<_};
 ghost use Rattle.drawing.specs.Refusals.{stepsTooLong};
+ghost use Rattle.gaps.specs.Gaps.{quits};
 ghost use Rattle.cubic.specs.Differences.{differencesAt};
-ghost use Rattle.curve.specs.Curve.{curveOf};
+ghost use Rattle.curve.specs.Curve.{curveOf, tellsLong, tellsQuit};
 ghost use Rattle.curve.specs.Machine.{InLimits, doubledAlong};
 use crate::Curve;
 use cubic::differences::Cubic;
+
+// What the test tells: no step is too long, after a walk along all steps or without one, or a walk found a step that is.
+pub(crate) enum StepTest {
+    Walked,
+    Quit,
+    TooLong,
+}
+
+// The test quits where the gaps say that no step is too long, and else it walks.
+pub(crate) fn test_steps(curve: Curve) -> StepTest
+    requires { ⌜ InLimits curve ⌝ }
+    ensures { λ r. ⌜ (tellsLong r ≡ stepsTooLong (curveOf curve)) × (tellsQuit r ≡ quits (curve .points) (curve .steps)) ⌝ }
+{
+    let points = curve.points;
+    if gaps::does_quit(&points, curve.steps) {
+        StepTest::Quit
+    } else if step_too_long(curve) {
+        StepTest::TooLong
+    } else {
+        StepTest::Walked
+    }
+}
 
 // Sample 0 along one axis, by its number: coordinate a of each point.
 pub(crate) fn cubic_along(curve: Curve, a: usize) -> Cubic
@@ -20,7 +43,7 @@ pub(crate) fn cubic_along(curve: Curve, a: usize) -> Cubic
 
 // Some two neighbouring samples lie more than one cell apart on some axis. The search is left at the first such step,
 // and forms no difference past the last.
-pub(crate) fn step_too_long(curve: Curve) -> bool
+fn step_too_long(curve: Curve) -> bool
     requires { ⌜ InLimits curve ⌝ }
     ensures { λ r. ⌜ r ≡ stepsTooLong (curveOf curve) ⌝ }
 {

@@ -10,6 +10,7 @@ use lib.Dec.{ltb}
 use borrow.Author.Tests.{ltb-false}
 use Rattle.decide.specs.Some.{someOf}
 use Rattle.decide.specs.Refusal.{Rule, _when_, Verdict, accepted, refused, firstThat, numbers, orElse}
+use Rattle.decide.specs.Refusal.{gives, refuses, outcome, telling}
 use Rattle.decide.proofs.Truth.{both-false}
 
 -- No rule of the order applies.
@@ -96,6 +97,21 @@ only-left (here a e) = a
 pub by-verdict : (v : Verdict) (P : Type 0) → (v ≡ accepted → P) → ((k : ℕ) → v ≡ refused k → P) → P
 by-verdict accepted P f g = f refl
 by-verdict (refused k) P f g = g k refl
+
+-- What a call answers tells its verdict: a number is the verdict's, and a value is that of an accepted call.
+module _ {A : Type 0} where
+  pub answer-refused : (v : Verdict) (a : A) {k : ℕ} → refuses k ≡ outcome v a → v ≡ refused k
+  answer-refused accepted a e = let z : _≡_ {A = ℕ} 0 1 = cc in absurd (omega arith)
+  answer-refused (refused l) a e = cc
+
+  pub answer-given : (v : Verdict) (a : A) {b : A} → gives b ≡ outcome v a → (v ≡ accepted) × (b ≡ a)
+  answer-given accepted a e = (refl, cc)
+  answer-given (refused l) a e = let z : _≡_ {A = ℕ} 0 1 = cc in absurd (omega arith)
+
+-- What is told of a call's value is the value of what is told.
+pub telling-outcome : {A B : Type 0} (f : A → B) (v : Verdict) (a : A) → telling f (outcome v a) ≡ outcome v (f a)
+telling-outcome f accepted a = refl
+telling-outcome f (refused k) a = refl
 
 module _ (k : ℕ) (b : Bool) (rules : List Rule) where
   -- A number whose test is true is the first.

@@ -36,6 +36,11 @@ abbrev pub outcome : {A : Type 0} → Verdict → A → Outcome A
 outcome accepted a = gives a
 outcome (refused k) a = refuses k
 
+-- The same answer by what is to be told of its value.
+abbrev pub telling : {A B : Type 0} → (A → B) → Outcome A → Outcome B
+telling f (gives a) = gives (f a)
+telling f (refuses k) = refuses k
+
 -- What a call leaves: the first if it is accepted, the second if it is refused.
 abbrev pub leaves : {A : Type 0} → Verdict → A → A → A
 leaves accepted a b = a

@@ -9,7 +9,7 @@ use borrow.Author.Tests.{ne-eqb, eq-eqb}
 use Rattle.decide.specs.Refusal as refusal
 use Rattle.decide.specs.Refusal.{Rule, _when_, Verdict, accepted, refused, Outcome, outcome, firstThat, orElse}
 use Rattle.decide.proofs.Truth.{true-of, false-of, less}
-use Rattle.decide.proofs.Refusal.{first-applies, first-passes}
+use Rattle.decide.proofs.Refusal.{telling-outcome, first-applies, first-passes}
 use Rattle.drawing.specs.Object.{Object}
 use Rattle.drawing.specs.Refusals.{checkVerdict, drawVerdict, sampleCount}
 use Rattle.drawing.specs.NewCells.{newCells}
@@ -65,17 +65,17 @@ module _ (own : List Rule) (v : Verdict) (n : ℕ) (left before : List ℕ) wher
     leaves = l ∙ sym (ap (λ u. refusal.leaves u left before) h);
   }
 
--- A check, by the object that the record's bytes stand for.
-module _ (size S : ℕ) (o : Object) {r : ℤ} where
-  pub wrong-check : (length (o .points) ≡ size → ⊥) → r ≡ minus 51 → ChecksBytes size S o r
+-- A check, by the object that the record's bytes stand for, and what it tells of an accepted one.
+module _ (size S : ℕ) (o : Object) (told : Object → ℕ) {r : ℤ} where
+  pub wrong-check : (length (o .points) ≡ size → ⊥) → r ≡ minus 51 → ChecksBytes size S o (told o) r
   wrong-check w e =
-      own-answer (recordOrder size (o .points)) (checkVerdict S o) 0 (wrong-length size (o .points) [] w) e
+      own-answer (recordOrder size (o .points)) (checkVerdict S o) (told o) (wrong-length size (o .points) [] w) e
 
-  pub right-check : (p : Object) {v : Verdict} → length (o .points) ≡ size → p ≡ o → v ≡ checkVerdict S p → r ≡ signed v 0 →
-      ChecksBytes size S o r
+  pub right-check : (p : Object) {a : Outcome ℕ} → length (o .points) ≡ size → p ≡ o → a ≡ outcome (checkVerdict S p) (told p) →
+      r ≡ signedOf a → ChecksBytes size S o (told o) r
   right-check p h same found e =
-      call-answer (recordOrder size (o .points)) (checkVerdict S o) 0 (right-length size (o .points) h)
-      (e ∙ ap (λ u. signed u 0) (found ∙ ap (checkVerdict S) same))
+      call-answer (recordOrder size (o .points)) (checkVerdict S o) (told o) (right-length size (o .points) h)
+      (e ∙ ap signedOf (found ∙ ap (λ q. outcome (checkVerdict S q) (told q)) same))
 
 -- A listing.
 module _ (size : ℕ) (bytes : List ℕ) (v : Verdict) (n : ℕ) (left before : List ℕ) where
@@ -119,16 +119,12 @@ module _ (size S choice : ℕ) (o : Object) (grid : List ℕ) where
       let d′ = rw same at d in
       let passed = right-choice size (o .points) h k in
       record {
-        call = passed-call own v _ _ _ passed (ap samplesOf (d′ .answer) ∙ samples-outcome v counts) (d′ .leaves) e;
+        call = passed-call own v _ _ _ passed (ap samplesOf (d′ .answer) ∙ telling-outcome (λ d. d .samples) v counts) (d′ .leaves) e;
         new-cells =
             q ∙ ap (λ a. newCellsAfter a new) (d′ .answer) ∙ new-outcome v counts new ∙
             ap (λ u. refusal.leaves (orElse u v) (newCells grid after) new) (sym passed);
       }
     where
-      samples-outcome : (v : Verdict) (d : Drawn) → samplesOf (outcome v d) ≡ outcome v (d .samples)
-      samples-outcome accepted d = refl
-      samples-outcome (refused k) d = refl
-
       new-outcome : (v : Verdict) (d : Drawn) (new : ℕ) → newCellsAfter (outcome v d) new ≡ refusal.leaves v (d .«new_cells») new
       new-outcome accepted d new = refl
       new-outcome (refused k) d new = refl

@@ -8,7 +8,7 @@ use lib.Dec.{ltb, eqb}
 use lib.IntN.{ℤ}
 use lib.ListN.{length}
 use Rattle.decide.specs.Refusal as refusal
-use Rattle.decide.specs.Refusal.{Rule, _when_, Verdict, Outcome, gives, refuses, firstThat}
+use Rattle.decide.specs.Refusal.{Rule, _when_, Verdict, Outcome, gives, refuses, telling, firstThat}
 use Rattle.drawing.specs.declared.Choice.{Choice}
 use Rattle.drawing.specs.declared.Choice.the-variants.{Over, Under}
 use Rattle.drawing.specs.Object.{Object}
@@ -44,15 +44,21 @@ pub record Calls (own : List Rule) (v : Verdict) (count : ℕ) (left before afte
   pub answer : r ≡ signed (ownFirst own v) count
   pub leaves : after ≡ refusal.leaves (firstThat own) left before
 
--- A check: 0, or minus the number.
-abbrev pub ChecksBytes : (size S : ℕ) (o : Object) (r : ℤ) → Type 0
-ChecksBytes size S o r = r ≡ signed (ownFirst (recordOrder size (o .points)) (checkVerdict S o)) 0
+-- A check: what it tells of an accepted object, of a patch 0, or minus the number.
+abbrev pub ChecksBytes : (size S : ℕ) (o : Object) (told : ℕ) (r : ℤ) → Type 0
+ChecksBytes size S o told r = r ≡ signed (ownFirst (recordOrder size (o .points)) (checkVerdict S o)) told
+
+-- Of a curve: 1 where the step test quit, and 0 where it walked.
+abbrev pub quitNumber : (quit : Bool) → ℕ
+quitNumber quit = cond quit 1 0
+
+abbrev pub quitOf : Outcome Bool → Outcome ℕ
+quitOf = telling quitNumber
 
 -- Of what a drawing answers, the number of samples, and what stands for its new cells afterwards: their number, or where it
 -- is refused what was there.
 abbrev pub samplesOf : Outcome Drawn → Outcome ℕ
-samplesOf (gives d) = gives (d .samples)
-samplesOf (refuses k) = refuses k
+samplesOf = telling (λ d. d .samples)
 
 abbrev pub newCellsAfter : Outcome Drawn → (before : ℕ) → ℕ
 newCellsAfter (gives d) before = d .«new_cells»

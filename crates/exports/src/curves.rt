@@ -3,13 +3,14 @@ ghost use mathlib.Core.Path.{_≡_};
 ghost use lib.ListN.{length};
 ghost use Rattle.drawing.specs.declared.Choice.the-variants.{Over};
 ghost use Rattle.drawing.specs.Object.{curve};
+ghost use Rattle.gaps.specs.Gaps.{quits};
 ghost use Rattle.curve.specs.Curve.{curveOf};
-ghost use Rattle.exports.specs.Records.{choiceOf, ChecksBytes, ListsBytes, DrawsBytes};
+ghost use Rattle.exports.specs.Records.{choiceOf, ChecksBytes, quitNumber, ListsBytes, DrawsBytes};
 use crate::signed::choice_of;
 use crate::signed::copy;
+use crate::signed::of_check;
 use crate::signed::of_drawing;
 use crate::signed::of_listing;
-use crate::signed::of_verdict;
 use crate::signed::refused;
 use curve::Curve;
 use drawing::Choice;
@@ -31,12 +32,12 @@ fn curve_of(points: &[u8], steps: u32, mark: u8, choice: Choice) -> Curve
 
 #[no_mangle]
 pub extern "C" fn gidzkhalu_check_curve(side: u32, points: &[u8], steps: u32) -> i64
-    ensures { λ r. ⌜ ChecksBytes 12 side (curve steps (now (points .entry)) 0 Over) r ⌝ }
+    ensures { λ r. ⌜ ChecksBytes 12 side (curve steps (now (points .entry)) 0 Over) (quitNumber (quits (now (points .entry)) steps)) r ⌝ }
 {
     if points.len() != 12 {
         return refused(51);
     }
-    of_verdict(curve::check_curve(side, curve_of(points, steps, 0, Choice::Over)))
+    of_check(curve::check_curve(side, curve_of(points, steps, 0, Choice::Over)))
 }
 
 #[no_mangle]

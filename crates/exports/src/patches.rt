@@ -31,7 +31,7 @@ fn patch_of(points: &[u8], n: u32, m: u32, mark: u8, choice: Choice) -> Patch
 
 #[no_mangle]
 pub extern "C" fn gidzkhalu_check_patch(side: u32, points: &[u8], n: u32, m: u32) -> i64
-    ensures { λ r. ⌜ ChecksBytes 48 side (patch n m (now (points .entry)) 0 Over) r ⌝ }
+    ensures { λ r. ⌜ ChecksBytes 48 side (patch n m (now (points .entry)) 0 Over) 0 r ⌝ }
 {
     if points.len() != 48 {
         return refused(51);

@@ -6,8 +6,10 @@ ghost use lib.ListN.{length};
 ghost use Rattle.integers.specs.Magnitude.{Within};
 ghost use Rattle.decide.specs.Verdict.{verdictOf};
 ghost use Rattle.scan.specs.Answer.{drawAnswerOf, listAnswerOf};
+ghost use Rattle.curve.specs.Curve.{checkAnswerOf};
 ghost use Rattle.exports.specs.Signed.{minus, signed, signedOf};
-ghost use Rattle.exports.specs.Records.{choiceOf, samplesOf, newCellsAfter};
+ghost use Rattle.exports.specs.Records.{choiceOf, quitOf, samplesOf, newCellsAfter};
+use curve::CheckAnswer;
 use decide::Verdict;
 use drawing::Choice;
 use scan::answer::DrawAnswer;
@@ -27,7 +29,18 @@ pub(crate) fn refused(number: u32) -> i64
     0 - scan::number::count(number)
 }
 
-// Of a check: 0 where it finds nothing.
+// Of a check of a curve: 1 where it quit, 0 where it walked.
+pub(crate) fn of_check(answer: CheckAnswer) -> i64
+    ensures { λ r. ⌜ (r ≡ signedOf (quitOf (checkAnswerOf answer))) × Within (2 ^ 32) r ⌝ }
+{
+    match answer {
+        CheckAnswer::Walked => 0,
+        CheckAnswer::Quit => 1,
+        CheckAnswer::Refused(number) => refused(number),
+    }
+}
+
+// Of a check of a patch: 0 where it finds nothing.
 pub(crate) fn of_verdict(verdict: Verdict) -> i64
     ensures { λ r. ⌜ (r ≡ signed (verdictOf verdict) 0) × Within (2 ^ 32) r ⌝ }
 {

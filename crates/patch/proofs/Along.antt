@@ -61,7 +61,7 @@ module _ {p : Patch} (l : InLimits p) where
   pub scale-read : {r : ℤ} → r ≡ pos (scaleOf (patchOf p)) → read r ≡ pos (scaleOf (patchOf p))
   scale-read e = natural-held e scale-small (lit< tt) .same
 
-  pub in-column : {gap at : ℕ} → 3 * gap + at < 48 → InColumn (p .points) (p .n) gap at
+  pub in-column : {apart at : ℕ} → 3 * apart + at < 48 → InColumn (p .points) (p .n) apart at
   in-column h = record {
     count = le-trans (l .n-most) (lit≤ tt);
     there = rw (l .forty-eight) h;

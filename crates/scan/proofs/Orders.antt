@@ -17,14 +17,16 @@ use Rattle.decide.proofs.Refusal.{accepted-none, first-append}
 use Rattle.cube.specs.Cube.{sideOut, volume}
 use Rattle.cube.proofs.Words.{side-in}
 use Rattle.drawing.specs.Object.{Object}
-use Rattle.drawing.specs.Refusals.{countOut, coordinateOut, stepsTooLong, order, drawVerdict, sampleCount}
+use Rattle.drawing.specs.Refusals.{countOut, coordinateOut, stepsTooLong, order, drawVerdict, listVerdict, sampleCount}
 use Rattle.drawing.specs.Drawing.{drawn}
 use Rattle.drawing.specs.NewCells.{unmarkedCells}
 use Rattle.drawing.proofs.Accepted.{coordinate-in}
 use Rattle.drawing.proofs.Drawn.{drawn-refused}
+use Rattle.drawing.proofs.Listed.{listed-refused}
 use Rattle.drawing.proofs.NewCells.{new-of}
 use Rattle.scan.specs.declared.answer.DrawAnswer.the-variants as answers
-use Rattle.scan.specs.Answer.{Draws}
+use Rattle.scan.specs.declared.answer.ListAnswer.the-variants as listings
+use Rattle.scan.specs.Answer.{Draws, Lists}
 use Rattle.scan.specs.Refusals.{beforeSteps}
 
 -- The verdict of the step test.
@@ -94,22 +96,22 @@ module _ (S : ℕ) (o : Object) (g m l out : Bool) (count : out ≡ someOf (coun
     accepted-short t b = sym (steps-decide ∙ short-accepted o (sym t ∙ b))
 
 -- A drawing's verdict, where `cube` is what the test of the grid's length answered.
-pub draw-judged : (S : ℕ) (o : Object) (bytes : ℕ) (v : found.Verdict) {cube : Bool} → cube ≡ eqb bytes (volume S) →
-    verdictOf v ≡ firstThat (order S o (not cube) (eqb (o .mark) 0) false) → drawVerdict S bytes o ≡ verdictOf v
+pub draw-judged : (S : ℕ) (o : Object) (bytes : ℕ) {cube : Bool} → cube ≡ eqb bytes (volume S) →
+    drawVerdict S bytes o ≡ firstThat (order S o (not cube) (eqb (o .mark) 0) false)
 unfolding drawVerdict
-draw-judged S o bytes v same e = sym (rw same at e)
+draw-judged S o bytes same = rw same
 
 -- A drawing's answer and grid, by its verdict.
-module _ (S : ℕ) (o : Object) (grid : List ℕ) (v : found.Verdict) (judged : drawVerdict S (length grid) o ≡ verdictOf v) where
-  pub draws-refused : {k : ℕ} → v ≡ Refused k → Draws S o grid grid (answers.Refused k)
-  draws-refused q =
-      let r = judged ∙ ap verdictOf q in record { answer = rw r; leaves = sym (drawn-refused S o grid r) }
+module _ (S : ℕ) (o : Object) (grid : List ℕ) where
+  pub draws-refused : {k : ℕ} → drawVerdict S (length grid) o ≡ refused k → Draws S o grid grid (answers.Refused k)
+  draws-refused r = record { answer = rw r; leaves = sym (drawn-refused S o grid r) }
 
-  module _ (q : v ≡ Accepted) where
-    pub draw-is-accepted : drawVerdict S (length grid) o ≡ accepted
-    draw-is-accepted = judged ∙ ap verdictOf q
+  pub draws-accepted : drawVerdict S (length grid) o ≡ accepted → (after : List ℕ) {count new : ℕ} →
+      after ≡ drawn S o grid → count ≡ sampleCount (o .counts) → new + unmarkedCells after ≡ unmarkedCells grid →
+      Draws S o grid after (answers.Accepted (record { samples = count; «new_cells» = new }))
+  draws-accepted a after e n k = record { answer = rw (a, n, new-of grid after k); leaves = e }
 
-    pub draws-accepted : (after : List ℕ) {count new : ℕ} → after ≡ drawn S o grid → count ≡ sampleCount (o .counts) →
-        new + unmarkedCells after ≡ unmarkedCells grid →
-        Draws S o grid after (answers.Accepted (record { samples = count; «new_cells» = new }))
-    draws-accepted after e n k = record { answer = rw (draw-is-accepted, n, new-of grid after k); leaves = e }
+-- A refused listing's answer and list.
+pub lists-refused : (S : ℕ) (o : Object) (list : List ℕ) {k : ℕ} → listVerdict S (length list) o ≡ refused k →
+    Lists S o list list (listings.Refused k)
+lists-refused S o list r = record { answer = rw r; leaves = sym (listed-refused S o list r) }

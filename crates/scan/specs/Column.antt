@@ -5,17 +5,17 @@ use lib.IntN.{ℤ, pos}
 use lib.ListN.{length, getD}
 use Rattle.cubic.specs.Blend.{column, twice}
 
--- Twice the exact values along the first parameter, through the coordinate at byte `at` and three more, each `gap` bytes
+-- Twice the exact values along the first parameter, through the coordinate at byte `at` and three more, each `apart` bytes
 -- on.
-abbrev pub doubledColumn : (points : List ℕ) (n gap at : ℕ) → ℕ → ℤ
-doubledColumn points n gap at = column (pos n) (twice (λ b. getD points b 0)) gap at
+abbrev pub doubledColumn : (points : List ℕ) (n apart at : ℕ) → ℕ → ℤ
+doubledColumn points n apart at = column (pos n) (twice (λ b. getD points b 0)) apart at
 
 -- Coordinates that 14 does not refuse at a side up to 64.
 abbrev pub Below64 : List ℕ → Type 0
 Below64 points = (b : ℕ) → b < length points → getD points b 0 ≤ 63
 
 -- The four coordinates are there, and neither 13 nor 14 refuses them.
-pub record InColumn (points : List ℕ) (n gap at : ℕ) : Type 0 where
+pub record InColumn (points : List ℕ) (n apart at : ℕ) : Type 0 where
   pub count : n ≤ 512
-  pub there : 3 * gap + at < length points
+  pub there : 3 * apart + at < length points
   pub coordinates : Below64 points

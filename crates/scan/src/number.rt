@@ -30,17 +30,17 @@ pub fn count(n: u32) -> i64
 }
 
 // Sample 0 of the cubic along the first parameter through four coordinates of the points, the first at byte at and each
-// next one gap bytes on: its doubled value and differences.
-pub fn start_column(points: &[u8], n: u32, gap: usize, at: usize) -> Cubic
-    requires { ⌜ InColumn (now points) n gap at ⌝ }
-    ensures { λ r. ⌜ r ≡ differencesAt (doubledColumn (now (points .entry)) n gap at) 0 ⌝ }
+// next one apart bytes on: its doubled value and differences.
+pub fn start_column(points: &[u8], n: u32, apart: usize, at: usize) -> Cubic
+    requires { ⌜ InColumn (now points) n apart at ⌝ }
+    ensures { λ r. ⌜ r ≡ differencesAt (doubledColumn (now (points .entry)) n apart at) 0 ⌝ }
 {
     cubic::differences::start(
         count(n),
         doubled(points[at]),
-        doubled(points[gap + at]),
-        doubled(points[2 * gap + at]),
-        doubled(points[3 * gap + at]),
+        doubled(points[apart + at]),
+        doubled(points[2 * apart + at]),
+        doubled(points[3 * apart + at]),
     )
 }
 

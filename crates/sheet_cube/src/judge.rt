@@ -8,6 +8,7 @@ ghost use Rattle.sheet.specs.Sheet.{sideOrder, curveOrder, judge};
 ghost use Rattle.sheet_lines.specs.Read.{firstLine};
 ghost use Rattle.sheet_cube.specs.Lines.{found, foundOf, SideOf};
 use crate::Refusal;
+use curve::CheckAnswer;
 use decide::Verdict;
 use sheet_lines::line::is_line;
 use sheet_lines::line::number_at;
@@ -97,7 +98,10 @@ fn judge_curve(side: u32, line: u32, rest: &[u8]) -> Verdict
     let text = &rest[..71];
     let read = read_curve(text);
     if read.fits {
-        curve::check_curve(side, read.curve)
+        match curve::check_curve(side, read.curve) {
+            CheckAnswer::Refused(number) => Verdict::Refused(number),
+            _ => Verdict::Accepted,
+        }
     } else {
         Verdict::Refused(refusal_of(text))
     }

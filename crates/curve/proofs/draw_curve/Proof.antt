@@ -1,33 +1,54 @@
 -- `draw_curve` meets its contract: the verdict is that of the drawing order, and an accepted curve is drawn.
 use borrow.Author.Needs.{needs}
 use denote.Ref.{now}
-use mathlib.Core.Path.{_≡_}
+use mathlib.Core.Path.{_≡_, _∙_, ap}
+use mathlib.Core.Bool.{Bool, false, not}
 use native.Mathlib.Omega.{arith}
-use lib.Dec.{lit<}
+use lib.Dec.{lit<, eqb}
 use lib.ListN.{length}
-use Rattle.decide.specs.Verdict.{verdictOf}
-use Rattle.drawing.specs.Refusals.{drawVerdict, sampleCount}
+use Rattle.decide.specs.Refusal.{Verdict, accepted, firstThat}
+use Rattle.drawing.specs.Refusals.{order, drawVerdict, sampleCount}
 use Rattle.drawing.proofs.Accepted.{draw-accepted}
-use Rattle.scan.proofs.Orders.{draw-judged, draws-refused, draw-is-accepted, draws-accepted}
-use Rattle.curve.specs.Curve.{curveOf}
+use Rattle.scan.proofs.Orders.{draw-judged, draws-refused, draws-accepted}
+use Rattle.curve.specs.Curve.{curveOf, tellsLong}
+use Rattle.curve.proofs.Judged.{not-long, before-refused, in-limits, test-refused, test-accepted}
 use Rattle.curve.proofs.draw_curve.Statement.{statement}
 use Rattle.curve.proofs.draw_curve.Tie as tie
 
 -- The verdict is that of the drawing order.
-module _ (c : tie.After-verdict) where
+module _ (c : tie.After-before-test) where
   abbrev s : tie.Start
   s = c .before .before .before .before
 
-  judged : drawVerdict (s .args .side) (length (now (s .args .grid))) (curveOf (s .args .curve)) ≡ verdictOf (c .verdict .result)
+  abbrev wrong : Bool
+  wrong = not (c .before .before .is-volume .result)
+
+  abbrev unmarked : Bool
+  unmarked = eqb (s .args .curve .mark) 0
+
+  abbrev verdict : Verdict
+  verdict = drawVerdict (s .args .side) (length (now (s .args .grid))) (curveOf (s .args .curve))
+
+  judged : verdict ≡ firstThat (order (s .args .side) (curveOf (s .args .curve)) wrong unmarked false)
   judged =
-      draw-judged (s .args .side) (curveOf (s .args .curve)) (length (now (s .args .grid))) (c .verdict .result)
-      (c .before .before .is-volume .ensures) (c .verdict .ensures)
+      draw-judged (s .args .side) (curveOf (s .args .curve)) (length (now (s .args .grid)))
+      (c .before .before .is-volume .ensures)
+
+-- Past the refusals.
+is-accepted : (c : tie.At-match2-keys2) → verdict (c .before .before .before .before) ≡ accepted
+is-accepted c =
+    let t = c .before in
+    let b = t .before .before .before in
+    judged b ∙
+    test-accepted (s b .args .side) (s b .args .curve) (wrong b) (unmarked b) false (b .before-test .result)
+    (b .before-test .ensures) (t .before .enum-told .given .1) (t .test-steps .ensures .0)
+    (not-long (t .test-steps .result) (c .match2 .keys2))
 
 is-volume-requires : tie.Need-is-volume-requires
 is-volume-requires c κs = search needs
 
-verdict-requires : tie.Need-verdict-requires
-verdict-requires c κs = search needs
+before-test-requires : tie.Need-before-test-requires
+before-test-requires c κs = search needs
 
 enum-known-k : tie.Need-enum-known-k
 enum-known-k c = search needs
@@ -35,32 +56,51 @@ enum-known-k c = search needs
 enum-told : tie.Need-enum-told
 enum-told c = search needs
 
+test-steps-requires : tie.Need-test-steps-requires
+test-steps-requires c κs =
+    let b = c .before .before in
+    in-limits (s b .args .side) (s b .args .curve) (wrong b) (unmarked b) false (b .before-test .result)
+    (b .before-test .ensures) (c .enum-told .given .1) (search needs)
+
+enum-told-2 : tie.Need-enum-told-2
+enum-told-2 c = search needs
+
 mark-samples-requires : tie.Need-mark-samples-requires
-mark-samples-requires c κs =
-    let b = c .before .before .before in draw-is-accepted _ _ (now (s b .args .grid)) _ (judged b) (c .before .enum-told .given .1)
+mark-samples-requires c κs = is-accepted (c .before)
 
 add-samples : tie.Need-add-samples
 add-samples c =
-    let t = c .before .before .before .before .before in
-    let b = t .before .before in
-    let d = draw-accepted _ _ _ .0 (draw-is-accepted _ _ (now (s b .args .grid)) _ (judged b) (t .enum-told .given .1)) .0 in
+    let d = draw-accepted _ _ _ .0 (is-accepted (c .before .before .before .before .before)) .0 in
     record { fits = omega (arith, d .count-most 0 (lit< tt)) }
 
 returns : tie.Need-returns
 returns c =
     let b = c .before .before .before in
-    draws-refused (s b .args .side) (curveOf (s b .args .curve)) (now (s b .args .grid)) _ (judged b) (c .before .k .given .1)
+    draws-refused (s b .args .side) (curveOf (s b .args .curve)) (now (s b .args .grid))
+    (judged b ∙
+    before-refused (s b .args .side) (s b .args .curve) (wrong b) (unmarked b) false (b .before-test .result)
+    (b .before-test .ensures) (c .before .k .given .1))
+
+returns-2 : tie.Need-returns-2
+returns-2 c =
+    let t = c .before .before in
+    let b = t .before .before .before in
+    draws-refused (s b .args .side) (curveOf (s b .args .curve)) (now (s b .args .grid))
+    (judged b ∙
+    test-refused (s b .args .side) (s b .args .curve) (wrong b) (unmarked b) false (b .before-test .result)
+    (b .before-test .ensures) (t .before .enum-told .given .1) (t .test-steps .ensures .0)
+    (ap tellsLong (c .enum-told2 .given .1)))
 
 same-length : tie.Need-same-length
 same-length c = search needs
 
-returns-2 : tie.Need-returns-2
+returns-3 : tie.Need-returns-3
 unfolding sampleCount
-returns-2 c =
+returns-3 c =
     let m = c .before .before .before in
-    let t = m .before .before in
-    let b = t .before .before in
-    draws-accepted (s b .args .side) (curveOf (s b .args .curve)) (now (s b .args .grid)) _ (judged b) (t .enum-told .given .1)
+    let a = m .before .before in
+    let b = a .before .before .before .before in
+    draws-accepted (s b .args .side) (curveOf (s b .args .curve)) (now (s b .args .grid)) (is-accepted a)
     _ (m .mark-samples .ensures .1) (omega arith) (m .mark-samples .ensures .0)
 
 pub draw-curve-spec : {M : Type 1} → statement M
@@ -68,11 +108,14 @@ draw-curve-spec =
     tie.close
     (tie.spec
     is-volume-requires
-    verdict-requires
+    before-test-requires
     enum-known-k
     enum-told
+    test-steps-requires
+    enum-told-2
     mark-samples-requires
     add-samples
     returns
+    returns-2
     same-length
-    returns-2)
+    returns-3)

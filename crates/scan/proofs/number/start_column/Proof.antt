@@ -62,18 +62,18 @@ twice-read : (points : List ℕ) (b : ℕ) {r : ℤ} → Below64 points → r �
 twice-read points b below e h = answer-read e (omega (arith, below b h))
 
 -- What `start` is given.
-record Given (points : List ℕ) (n gap at : ℕ) (count q0 q1 q2 q3 : ℤ) : Type 0 where
+record Given (points : List ℕ) (n apart at : ℕ) (count q0 q1 q2 q3 : ℤ) : Type 0 where
   pub steps : read count ≡ pos n
   pub point0 : read q0 ≡ pos (2 * getD points at 0)
-  pub point1 : read q1 ≡ pos (2 * getD points (gap + at) 0)
-  pub point2 : read q2 ≡ pos (2 * getD points (2 * gap + at) 0)
-  pub point3 : read q3 ≡ pos (2 * getD points (3 * gap + at) 0)
+  pub point1 : read q1 ≡ pos (2 * getD points (apart + at) 0)
+  pub point2 : read q2 ≡ pos (2 * getD points (2 * apart + at) 0)
+  pub point3 : read q3 ≡ pos (2 * getD points (3 * apart + at) 0)
 
 module _ (c : tie.After-doubled4) where
   abbrev s : tie.Start
   s = c .before .before .before .before .before .before .before .before .before .before
 
-  given : Given (now (s .args .points)) (s .args .n) (s .args .gap) (s .args .at)
+  given : Given (now (s .args .points)) (s .args .n) (s .args .apart) (s .args .at)
       (c .before .before .before .before .before .before .before .before .count .result)
       (c .before .before .before .before .before .before .doubled .result)
       (c .before .before .before .before .doubled2 .result)
@@ -91,13 +91,13 @@ module _ (c : tie.After-doubled4) where
             twice-read points (s .args .at) (l .coordinates)
             (c .before .before .before .before .before .before .doubled .ensures) (omega arith);
         point1 =
-            twice-read points (s .args .gap + s .args .at) (l .coordinates)
+            twice-read points (s .args .apart + s .args .at) (l .coordinates)
             (c .before .before .before .before .doubled2 .ensures) (omega arith);
         point2 =
-            twice-read points (2 * s .args .gap + s .args .at) (l .coordinates)
+            twice-read points (2 * s .args .apart + s .args .at) (l .coordinates)
             (c .before .before .doubled3 .ensures) (omega arith);
         point3 =
-            twice-read points (3 * s .args .gap + s .args .at) (l .coordinates) (c .doubled4 .ensures) (omega arith);
+            twice-read points (3 * s .args .apart + s .args .at) (l .coordinates) (c .doubled4 .ensures) (omega arith);
       }
 
 start-requires : tie.Need-start-requires

@@ -1,11 +1,15 @@
 -- `judge_curve` meets its contract: a line that fits is judged by its curve, another by what does not fit.
 use borrow.Author.Needs.{needs}
-use mathlib.Core.Path.{sym, _∙_, ap}
+use mathlib.Core.Path.{_≡_, sym, _∙_, ap}
 use mathlib.Core.List.{List}
 use Prim.Native.Nat.{ℕ, _≤_}
 use native.Mathlib.Omega.{arith}
-use Rattle.decide.specs.Refusal.{refused}
+use Rattle.decide.specs.Refusal.{refused, firstThat}
+use Rattle.decide.proofs.Refusal.{answer-refused}
 use Rattle.drawing.specs.Refusals.{checkVerdict}
+use Rattle.curve.specs.Curve.{curveOf, checkAnswerOf}
+use Rattle.curve.proofs.Answers.{not-refused}
+use Rattle.sheet.specs.Sheet.{curveOrder}
 use Rattle.sheet.proofs.Sheet.{too-many-lines}
 use Rattle.sheet_lines.specs.Read.{firstLine}
 use Rattle.sheet_cube.proofs.Verdicts.{WholeLine, is-wrong, is-whole, curve-wrong, side-there}
@@ -52,19 +56,36 @@ check-curve-requires c κs = search needs
 refusal-of-requires : tie.Need-refusal-of-requires
 refusal-of-requires c κs = omega (arith, first (c .before .before .before) .whole)
 
+enum-known-number : tie.Need-enum-known-number
+enum-known-number c = search needs
+
+-- A line that fits is judged as its curve is.
+module _ (c : tie.After-check-curve) where
+  abbrev before : tie.After-is-line
+  before = c .before .before .before .before .before
+
+  judged : checkVerdict (start before .args .side) (curveOf (c .before .before .read-curve .result .curve)) ≡
+      firstThat (curveOrder (start before .args .side) (start before .args .line) (firstLine (rest before)))
+  judged =
+      let t = c .before in
+      let w = first (t .before .before .before) in
+      let r = rw (w .taken) at (t .before .read-curve .ensures) in
+      let f = sym (read-fits _ r) ∙ t .if3 .taken in
+      ap (checkVerdict (start before .args .side)) (read-curve _ r f) ∙
+      sym (fit-judged (start before .args .side) _ _ (few before) (w .right) f)
+
 returns-3 : tie.Need-returns-3
 returns-3 c =
-    let t = c .before in
-    let e = t .before .before .before in
-    let s = e .before in
-    let w = first e in
-    let r = rw (w .taken) at (t .before .read-curve .ensures) in
-    let f = sym (read-fits _ r) ∙ t .if3 .taken in
-    c .check-curve .ensures ∙ ap (checkVerdict (start s .args .side)) (read-curve _ r f) ∙
-    sym (fit-judged (start s .args .side) _ _ (few s) (w .right) f)
+    let k = c .before .before .before in
+    sym (answer-refused _ _ (sym (ap checkAnswerOf (c .before .number .given .1)) ∙ k .check-curve .ensures)) ∙ judged k
 
 returns-4 : tie.Need-returns-4
 returns-4 c =
+    let k = c .before in
+    sym (not-refused (k .check-curve .result) _ _ (c .match .keys2) (k .check-curve .ensures)) ∙ judged k
+
+returns-5 : tie.Need-returns-5
+returns-5 c =
     let t = c .before in
     let e = t .before .before .before in
     let s = e .before in
@@ -84,6 +105,8 @@ judge-curve-spec =
     slice-aggregate-text
     read-curve-requires
     check-curve-requires
+    enum-known-number
     refusal-of-requires
     returns-3
-    returns-4)
+    returns-4
+    returns-5)
