@@ -3,9 +3,10 @@
 `python3 tests/drawing_cases.py` writes crates/drawing_cases/stdin and stdout; with `--check` it writes nothing and exits
 with 1 if they are not what it would write; with `--count` it prints how many cases of each letter and choice got each
 answer, how many accepted drawings had all, some or none of their cells unmarked, how many of the curves listed from both
-ends have a sample exactly on a half, how many neighbours of the accepted patches have had their cells compared, and for
-how many drawings a wrong count of new cells is another number or a wrong drawing leaves another grid.  The forms of both
-are described in crates/drawing_cases/src.
+ends have a sample exactly on a half, how many neighbours of the accepted patches have had their cells compared, for how
+many drawings a wrong count of new cells is another number or a wrong drawing leaves another grid, for how many curves the
+test quit, walked, or would have quit but for another number, and to how many a wrong test would give another answer.  The
+forms of both are described in crates/drawing_cases/src.
 """
 
 import random
@@ -14,10 +15,10 @@ from collections import Counter
 from itertools import combinations, permutations, product
 
 from model import (
-    CHESSBOARD, HALVES_IN_BOTH_ROWS, K1_TO_K11, OVER, UNDER, WRONG_WAYS, Answer, broken_laws, cells,
-    cells_with_halves_to_even, cells_with_halves_up, curve, demand_3, distances_line, draw, drawing_refusal,
-    from_other_end, grid_of_points, list_curve, neighbour_distances, on_axis, patch, place, places, row, run, samples,
-    told_apart, unmarked, with_other_choice,
+    CHESSBOARD, HALVES_IN_BOTH_ROWS, K1_TO_K11, OVER, UNDER, WRONG_CHECKS, WRONG_WAYS, Answer, broken_laws, cells,
+    cells_with_halves_to_even, cells_with_halves_up, check_curve, check_refusal, curve, demand_3, distances_line, draw,
+    from_other_end, grid_of_points, list_curve, near_quitting, neighbour_distances, on_axis, patch, place, places, quits,
+    row, run, samples, told_apart, unmarked, with_other_choice, wrong_checks,
 )  # fmt: skip
 from stored import answer_record, case_record, malformed, store
 
@@ -30,9 +31,15 @@ LARGEST = 4294967295
 MARK = 200
 
 
-def check(side, record, lent):
-    """A check: the numbers of a drawing whose grid and mark are right."""
-    refusal = drawing_refusal(side, record._replace(mark=MARK), side**3)
+def curve_checked(side, record, lent):
+    """A check of a curve: 1 where the test quit, 0 where it walked."""
+    refusal, quit_so = check_curve(side, record)
+    return Answer(refusal, int(quit_so) if refusal is None else None, lent)
+
+
+def patch_checked(side, record, lent):
+    """A check of a patch: 0."""
+    refusal = check_refusal(side, record)
     return Answer(refusal, 0 if refusal is None else None, lent)
 
 
@@ -46,7 +53,7 @@ def list_from_both_ends(side, record, lent):
     return there
 
 
-CALLS = {"D": draw, "L": list_curve, "E": list_from_both_ends, "C": check, "P": draw, "Q": check}
+CALLS = {"D": draw, "L": list_curve, "E": list_from_both_ends, "C": curve_checked, "P": draw, "Q": patch_checked}
 ON_PATCHES, DRAWINGS = "PQ", "DP"
 
 
@@ -82,6 +89,8 @@ class Cases:
         self.distances = Counter()  # of the cells of neighbours in accepted patches
         self.unmarked = Counter()  # the accepted drawings, by letter, choice and which of their cells were unmarked
         self.told = Counter()  # the accepted drawings, by the wrong ways that give another number or grid
+        self.tested = Counter()  # the calls with a curve, by letter and whether the test quit, or would have
+        self.checks_told = Counter()  # the calls with a curve, by the wrong checks that give another answer, and letter
 
     def add(self, letter, numbers, answer, kind, form="d"):
         """One case with its answer."""
@@ -118,6 +127,8 @@ class Cases:
         said = ("A", answer.count) if answer.refusal is None else ("R", answer.refusal)
         held = answer.new if drawn else 0, *holding(answer.lent)
         self.add(letter, numbers, (said[0], (said[1], *held)), f"{record.choice} {answer.refusal or 'accepted'}")
+        if letter not in ON_PATCHES:
+            self.count_test(letter, side, record, answer.refusal)
         if letter in DRAWINGS:
             assert not broken_laws(side, record, lent, answer), record
         else:
@@ -132,6 +143,18 @@ class Cases:
         if letter in ON_PATCHES and answer.refusal is None:
             self.distances.update(neighbour_distances(record, cells(record)))
         return answer
+
+    def count_test(self, letter, side, record, refusal):
+        """Whether the test of a curve quit; which wrong checks answer otherwise, or let pass what is refused with 15."""
+        right = check_curve(side, record)
+        assert quits(record) == quits(from_other_end(record)) and not (refusal == 15 and quits(record)), record
+        if refusal is None:
+            self.tested[letter, "quit" if right.quit else "walked"] += 1
+        elif quits(record):
+            self.tested[letter, f"would quit, refused with {refusal}"] += 1
+        for way, wrong in wrong_checks(side, record).items():
+            if wrong != right if letter == "C" else refusal == 15 != wrong.refusal:
+                self.checks_told[way, letter] += 1
 
     def all_calls(self, side, record):
         """A drawing into an unmarked grid, a listing into a list that holds bytes, and a check."""
@@ -604,6 +627,130 @@ def under_by_other_numbers(cases):
         assert answer.lent[:2] == bytes([7, 128])
 
 
+def lone_gap(pair, gap):
+    """Points of one axis with a gap between two of them, points pair and pair + 1, and no other."""
+    return [0] * (pair + 1) + [gap] * (3 - pair)
+
+
+def steady_gaps(pair, gap):
+    """Points of one axis on the rise, with a gap between two of them, and one less between the others."""
+    by = [gap if k == pair else gap - 1 for k in range(3)]
+    return [sum(by[:k]) for k in range(4)]
+
+
+def tried(cases, side, record, drawn_too=True):
+    """A check of a curve, then a drawing, where the cube is small, and a listing; how the check ended."""
+    answer = cases.call("C", side, record)
+    if drawn_too:
+        for letter in "DL" if side <= 17 else "L":
+            assert cases.call(letter, side, record).refusal == answer.refusal
+    return answer.refusal or ("quit" if answer.count else "walked")
+
+
+def around_three_gaps(cases):
+    """Three times the gap for n, a little less and one more: the gap between any two points, on any axis, up and down.
+
+    Less is a walk for a lone gap, and with about as large ones beside it a long step; lines, and there and back, as well.
+    """
+    for points, gaps, ends in (
+        (lone_gap, (1, 2, 7, 21, 63), {-1: ["walked"] * 3}),
+        (steady_gaps, (2, 3, 6, 21), {-2: [15] * 3, -1: [15, "walked", 15]}),
+    ):
+        for gap in gaps:
+            side = 1 + max(points(0, gap))
+            cases.fill(BUFFER if side > 17 else side**3, 0, 64)
+            for pair, axis, way in product(range(3), range(3), (1, -1)):
+                controls, choice, a_third = points(pair, gap)[::way], CHOICES[axis % 2], (pair + axis + way) % 3 == 0
+                for more, found in (*ends.items(), (0, ["quit"] * 3), (1, ["quit"] * 3)):
+                    record = curve(on_axis(axis, controls), 3 * gap + more, MARK, choice)
+                    assert tried(cases, side, record, a_third) == found[pair], record
+    for gap, axis in product((2, 3, 5), range(3)):
+        for controls, less in ((0, gap, 2 * gap, 3 * gap), 15), ((0, gap, gap, 0), "walked"), ((gap, 0, 0, gap), "walked"):
+            for n, found in (3 * gap - 2, 15), (3 * gap - 1, less), (3 * gap, "quit"):
+                assert tried(cases, max(controls) + 1, curve(on_axis(axis, controls), n, MARK)) == found
+
+
+def gaps_of_all_axes(cases):
+    """Unequal gaps on the three axes, and n around three times each; n below three times the largest does not quit."""
+    for axes, shape in product(permutations((1, 3, 5)), (lone_gap, steady_gaps)):
+        points = [c for point in zip(*(shape(k, gap) for k, gap in enumerate(axes))) for c in point]
+        for n in 2, 3, 4, 8, 9, 10, 14, 15, 16:
+            assert (tried(cases, 16, curve(points, n, MARK), n > 13) == "quit") == (n >= 15)
+
+
+def ends_of_gaps(cases):
+    """No gap, which quits in one step, the largest gap, and n up to 512, past a byte."""
+    for side, point, n in product((2, 8, 64), ((0, 0, 0), (1, 1, 1), (1, 0, 1), (0, 1, 0)), (1, 2, 3, 512)):
+        corner = [c * (side - 1) for c in point]
+        assert tried(cases, side, curve(corner * 4, n, MARK)) == "quit"
+    zigzags = (0, 63, 0, 63), (63, 0, 63, 0), (0, 63, 63, 0), (63, 0, 0, 63)
+    for zigzag, axes in product(zigzags, ("x", "y", "z", "xyz")):
+        points = [g if axis in axes else 31 for g in zigzag for axis in "xyz"]
+        for n in 187, 188, 189, 190:
+            assert (tried(cases, 64, curve(points, n, MARK), False) == "quit") == (n >= 189)
+    for gap, axis, n in product((1, 21, 63), range(3), (255, 256, 257, 258, 444, 511, 512)):
+        assert tried(cases, 64, curve(on_axis(axis, lone_gap(axis, gap)), n, MARK), False) == "quit"
+
+
+def gaps_and_other_numbers(cases):
+    """Curves whose gaps would let the test quit, refused with each other number, and accepted."""
+    still, rising = [5] * 12, on_axis(2, (4, 5, 6, 7))
+    for letter, choice in ("C", OVER), ("D", UNDER), ("L", OVER):
+        for number, calls in (
+            (11, ((side, points, 3) for side in (0, 1, 65, 256, LARGEST) for points in ([0] * 12, rising))),
+            (13, ((8, points, n) for points in (still, rising) for n in (513, 514, 1 << 16, LARGEST))),
+            (13, [(8, still, 0), (2, [1] * 12, 0), (64, [63] * 12, 0)]),
+            (14, ((side, points, 3) for side in (2, 4, 5) for points in (still, rising))),
+            (14, ((7, on_axis(axis, points), 3) for axis in range(3) for points in ((4, 5, 6, 7), (7, 6, 5, 4)))),
+            (None, ((8, points, 3) for points in (still, rising))),
+        ):
+            for side, points, n in calls:
+                record = curve(points, n, MARK, choice)
+                length = min(right_length(letter, side, n), BUFFER)
+                assert quits(record) and cases.call(letter, side, record, length).refusal == number
+
+
+def random_near_quitting(cases, dice):
+    """2,000 checks with n near three times the gap, some with a fault; about every ninth curve drawn and listed too."""
+    for k in range(2000):
+        side = dice.randrange(2, 65 if k % 2 else 18)
+        points, n = near_quitting(dice, side)
+        axis, fault = dice.randrange(3), dice.randrange(18)
+        if k % 80 == 0:
+            cases.fill(BUFFER, dice.randrange(256), 64)
+        if fault == 0:
+            side = dice.choice((0, 1, 65, 66, 256, LARGEST))
+        if fault == 1:
+            n = dice.choice((0, 513, 514, n + 512, 1 << 16, LARGEST))
+        if fault == 2:
+            past = dice.randrange(side, 256) - max(points[axis::3])  # all points moved along an axis, their gaps kept
+            points[axis::3] = [c + past for c in points[axis::3]]
+        if fault == 3:
+            points[dice.randrange(12)] = dice.choice((side, 255))
+        record = curve(points, n, dice.randrange(1, 256), dice.choice(CHOICES))
+        tried(cases, side, record, k % 9 == 0 and fault > 1)
+
+
+# The wrong checks by which no long step passes
+SHORT_STEPS = "four times the gap", "below n", "n modulo 256", "told after a walk", "not told", "before 11, 13 and 14"
+
+
+def quitting(cases, dice):
+    """The test that quits: around its ends, beside the other numbers, and at random; enough of each was met."""
+    for part in around_three_gaps, gaps_of_all_axes, ends_of_gaps, gaps_and_other_numbers:
+        part(cases)
+    random_near_quitting(cases, dice)
+    assert all(cases.tested["C", end] >= 500 for end in ("quit", "walked")), cases.tested
+    assert all(cases.tested[letter, end] >= 150 for letter, end in product("DL", ("quit", "walked"))), cases.tested
+    assert all(cases.tested["C", f"would quit, refused with {number}"] >= 60 for number in (11, 13, 14)), cases.tested
+    for number in ORDERS["C"]:
+        assert sum(cases.answered["C", f"{choice} {number}"] for choice in CHOICES) >= 100, cases.answered
+    for way in WRONG_CHECKS:
+        assert cases.checks_told[way, "C"] >= (30 if way == "n modulo 256" else 150), (way, cases.checks_told)
+        passed = sum(cases.checks_told[way, letter] for letter in "DL")
+        assert passed == 0 if way in SHORT_STEPS else passed >= 15, (way, cases.checks_told)
+
+
 def no_cases(cases):
     """Records that are no case, of another form or lent more than there is; and bytes shown past the buffer's end."""
     first = cases.records[0][0]
@@ -632,6 +779,7 @@ def main():
     for part in held_and_drawn, shared_cells, choice_ignored, under_by_other_numbers:
         part(cases)
     mixed_lists(cases, random.Random(4))
+    quitting(cases, random.Random(5))
     no_cases(cases)
     assert all(distance <= 1 for _, distance in cases.distances), cases.distances
     kinds = product(DRAWINGS, CHOICES, ("all", "some", "none"))
@@ -651,6 +799,11 @@ def main():
                 print(f"{choice}, new cells counted wrongly, {way}: another number for {count} drawings")
             else:
                 print(f"{choice}, drawn wrongly, {way}: another grid after {count} drawings")
+        for (letter, end), count in sorted(cases.tested.items()):
+            print(f"{letter}, the test of the curve: {end}", count)
+        for way in WRONG_CHECKS:
+            checks, passed = cases.checks_told[way, "C"], sum(cases.checks_told[way, letter] for letter in "DLE")
+            print(f"checked wrongly, {way}: another answer to {checks} checks, and to {passed} drawings and listings")
         print(len(cases.records), "records")
         return 0
     return store("drawing_cases", cases.records)

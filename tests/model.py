@@ -3,7 +3,7 @@
 Whole numbers and fractions are exact throughout; there are no differences and no remainders here.  Imported, the module
 gives the expected answers of test programs.  Run as `python3 tests/model.py`, it checks itself on the documents' samples
 and exits with 1 if a check fails.  Quoted words are document 01's, for demand 3 also the demand's own, and for cells of
-samples, neighbours, hues, totals, new cells and choices document 02's.
+samples, neighbours, hues, totals, new cells, choices and the test that quits document 02's.
 """
 
 import random
@@ -16,6 +16,7 @@ from functools import lru_cache, wraps
 from io import BytesIO
 from itertools import product
 from math import ceil, floor, prod
+from operator import le, lt
 from typing import NamedTuple, Optional, Tuple
 
 # The colour cube
@@ -143,7 +144,18 @@ def steps_too_long(record):
     return any(any(map(long_step, exact[here], exact[there])) for _, here, there in neighbours(record))
 
 
-# Drawing and listing
+def largest_gap(controls):
+    """The "largest gap between consecutive points" on one axis."""
+    return max(abs(there - here) for here, there in zip(controls, controls[1:]))
+
+
+def quits(record):
+    """Whether the test of a curve is to end sooner: "three times the largest gap .., on every axis, is at most n"."""
+    (n,) = record.counts
+    return all(3 * largest_gap(record.coordinates[axis::3]) <= n for axis in range(3))
+
+
+# Drawing, listing and checking
 
 
 class Answer(NamedTuple):
@@ -161,6 +173,13 @@ class DrawAnswer(NamedTuple):
     count: Optional[int]
     new: Optional[int]
     lent: bytes
+
+
+class CheckAnswer(NamedTuple):
+    """The refusal number or None, and if accepted whether the test quit."""
+
+    refusal: Optional[int]
+    quit: Optional[bool]
 
 
 STEP_LIMITS = {1: 512, 2: 256}  # by the number of parameters: a curve's "1 to 512", a patch's "each 1 to 256"
@@ -253,6 +272,25 @@ def list_curve(side, record, lent):
         return Answer(refusal, None, bytes(lent))
     listed = bytes(coordinate for cell in row(cells(record)) for coordinate in cell)
     return Answer(None, n + 1, listed + bytes(lent[len(listed) :]))
+
+
+def check_refusal(side, record):
+    """The same order, where a check has neither grid nor list and ignores mark and choice."""
+    return first_refusal(
+        (11, lambda: not 2 <= side <= 64),
+        (13, lambda: count_out_of_range(record)),
+        (14, lambda: max(record.coordinates) >= side),
+        (15, lambda: steps_too_long(record)),
+    )
+
+
+def check_curve(side, record):
+    """Checks a curve: "beside its verdict the test tells whether it quit so, which is exactly in that case".
+
+    The verdict is by the steps themselves, where the test quits too: "no other answer changes".
+    """
+    refusal = check_refusal(side, record)
+    return CheckAnswer(refusal, quits(record) if refusal is None else None)
 
 
 # Swatches: an f32 is its 32-bit pattern
@@ -805,6 +843,51 @@ def told_apart(side, record, grid, answer):
     numbers, grids = wrong_counts(side, record, grid), wrong_grids(side, record, grid)
     yield from ((record.choice, "counts", way) for way, new in numbers.items() if new != answer.new)
     yield from ((record.choice, "draws", way) for way, left in grids.items() if left != answer.lent)
+
+
+def quits_by(record, times=3, gap=largest_gap, axes=(0, 1, 2), of_axes=all, fits=le):
+    """The rule by which the test of a curve quits, some part of it exchanged."""
+    (n,) = record.counts
+    return of_axes(fits(times * gap(record.coordinates[axis::3]), n) for axis in axes)
+
+
+def rises(controls):
+    """From each point to the next, below 0 for a fall."""
+    return [there - here for here, there in zip(controls, controls[1:])]
+
+
+WRONG_RULES = {  # by which a program may take the test to quit
+    "two times the gap": {"times": 2},
+    "four times the gap": {"times": 4},
+    "below n": {"fits": lt},
+    "n modulo 256": {"fits": lambda gap, n: gap <= n % 256},
+    "points 0 and 3 alone": {"gap": lambda g: abs(g[3] - g[0])},
+    "points 0 and 1 left out": {"gap": lambda g: largest_gap(g[1:])},
+    "points 1 and 2 left out": {"gap": lambda g: max(abs(g[1] - g[0]), abs(g[3] - g[2]))},
+    "points 2 and 3 left out": {"gap": lambda g: largest_gap(g[:3])},
+    "rising gaps alone": {"gap": lambda g: max(0, *rises(g))},
+    "falling gaps alone": {"gap": lambda g: max(0, *rises(g[::-1]))},
+    "the largest gap minus the smallest": {"gap": lambda g: max(rises(g)) - min(rises(g))},  # equation 21's slip
+    "x left out": {"axes": (1, 2)},
+    "y left out": {"axes": (0, 2)},
+    "z left out": {"axes": (0, 1)},
+    "one axis is enough": {"of_axes": any},
+}
+WRONG_CHECKS = [*WRONG_RULES, "told after a walk", "not told", "before 11, 13 and 14"]
+
+
+def wrong_checks(side, record):
+    """The answer that each wrong check of a curve gives; where a wrong rule quits, 15 is not tried."""
+    right, quit_so = check_curve(side, record), CheckAnswer(None, True)
+    found = dict.fromkeys(WRONG_CHECKS, right)
+    if right.refusal is None:
+        found.update({way: CheckAnswer(None, quits_by(record, **parts)) for way, parts in WRONG_RULES.items()})
+        found["told after a walk"], found["not told"] = quit_so, CheckAnswer(None, False)
+    if right.refusal == 15:
+        found.update({way: quit_so for way, parts in WRONG_RULES.items() if quits_by(record, **parts)})
+    if quits(record):
+        found["before 11, 13 and 14"] = quit_so
+    return found
 
 
 def broken_laws(side, record, grid, answer):
@@ -1414,6 +1497,102 @@ def check_choices(checks):
     checks.equal(group, "a sheet's line", line_curve(format_line(9, 3, *line)), curve(line, 3, 9, OVER))
 
 
+def near_quitting(dice, side):
+    """The points of a random curve, and a step count within 2 of three times its largest gap.
+
+    On each axis some gap is the largest; the others are any up to it, or about as large and in the same direction, which
+    makes for long steps.
+    """
+    straight = side > 3 and dice.random() < 0.5
+    largest = max(dice.randrange(2), dice.randrange((side - 1) // (3 if straight else 1) + 1))
+    widest = dice.randrange(3)
+    axes = []
+    for axis in range(3):
+        pair, gap = dice.randrange(3), largest if axis == widest else dice.randrange(largest + 1)
+        if straight:
+            by = [gap if k == pair else max(0, gap - dice.choice((0, 0, 1, 2))) for k in range(3)]
+            controls = [sum(by[:k]) for k in range(4)]
+        else:
+            controls = [dice.randrange(gap + 1) for _ in range(4)]
+            controls[pair : pair + 2] = 0, gap
+        low = dice.randrange(side - max(controls))
+        axes.append([low + c for c in controls[:: dice.choice((1, -1))]])
+    points = [c for point in zip(*axes) for c in point]
+    return points, max(1, 3 * largest + dice.choice((-2, -1, -1, -1, 0, 0, 1, 2)))
+
+
+def check_quitting(checks):
+    """Where the test of a curve quits, by name and at random, and that it is then right; wrong tests told apart."""
+    group = "the test that quits"
+    walked = "K5", "K7", "K10, n = 8"
+    for axis, (name, points, n, _, refusal) in product(range(3), K1_TO_K11):
+        expected = CheckAnswer(refusal, None if refusal else name not in walked)
+        checks.equal(group, f"{name}, axis {axis}", check_curve(8, curve(on_axis(axis, points), n, 0)), expected)
+    refused, quit_so, walks = CheckAnswer(15, None), CheckAnswer(None, True), CheckAnswer(None, False)
+    for points, n, expected in (
+        ((0, 1, 2, 3), 3, quit_so), ((0, 1, 2, 3), 2, refused), ((3, 2, 1, 0), 3, quit_so), ((3, 2, 1, 0), 2, refused),
+        ((0, 0, 0, 6), 18, quit_so), ((0, 0, 0, 6), 17, walks), ((0, 0, 0, 6), 16, refused),
+        ((5, 5, 5, 5), 1, quit_so), ((5, 5, 5, 5), 512, quit_so), ((0, 0, 0, 1), 2, walks), ((0, 0, 0, 1), 3, quit_so),
+        ((0, 63, 63, 63), 189, quit_so), ((0, 63, 63, 63), 188, walks), ((63, 63, 0, 0), 189, quit_so),
+        ((63, 63, 0, 0), 188, walks), ((0, 63, 0, 63), 189, quit_so), ((0, 63, 0, 63), 188, walks),
+        ((0, 21, 42, 63), 63, quit_so), ((0, 21, 42, 63), 62, refused),
+    ):  # fmt: skip
+        for axis in range(3):
+            found = check_curve(64, curve(on_axis(axis, points), n, 0))
+            checks.equal(group, f"{points}, n = {n}, axis {axis}", found, expected)
+    for side, points, n, number in (
+        (1, [0] * 12, 1, 11), (65, [5] * 12, 1, 11), (8, [5] * 12, 0, 13), (8, [5] * 12, 513, 13), (8, [8] * 12, 1, 14),
+        (8, on_axis(1, (5, 6, 7, 8)), 3, 14), (8, on_axis(2, (8, 8, 8, 8)), 512, 14), (1, [9] * 12, 513, 11),
+    ):  # fmt: skip
+        record = curve(points, n, 0)
+        checks.equal(group, f"refused though it would quit, {number}", quits(record), True)
+        checks.equal(group, f"{number}, side {side}, {record}", check_curve(side, record), CheckAnswer(number, None))
+        checks.equal(group, f"{number} not tried", wrong_checks(side, record)["before 11, 13 and 14"], quit_so)
+    for way, axis, points, n, right, wrong in (
+        ("two times the gap", 0, (0, 1, 2, 3), 2, refused, quit_so),
+        ("two times the gap", 0, (0, 0, 0, 6), 16, refused, quit_so),
+        ("two times the gap", 0, (0, 0, 0, 6), 17, walks, quit_so),
+        ("four times the gap", 0, (0, 1, 2, 3), 3, quit_so, walks),
+        ("below n", 0, (0, 1, 2, 3), 3, quit_so, walks),
+        ("n modulo 256", 0, (0, 1, 2, 3), 256, quit_so, walks),
+        ("points 0 and 3 alone", 0, (0, 3, 3, 0), 7, refused, quit_so),
+        ("points 0 and 3 alone", 0, (0, 3, 3, 0), 8, walks, quit_so),
+        ("points 0 and 3 alone", 0, (0, 1, 2, 3), 3, quit_so, walks),
+        ("points 0 and 1 left out", 0, (0, 2, 2, 2), 1, refused, quit_so),
+        ("points 1 and 2 left out", 0, (0, 0, 2, 2), 1, refused, quit_so),
+        ("points 2 and 3 left out", 0, (0, 0, 0, 2), 1, refused, quit_so),
+        ("rising gaps alone", 0, (3, 2, 1, 0), 2, refused, quit_so),
+        ("falling gaps alone", 0, (0, 1, 2, 3), 2, refused, quit_so),
+        ("the largest gap minus the smallest", 0, (0, 1, 2, 3), 2, refused, quit_so),
+        ("x left out", 0, (0, 1, 2, 3), 2, refused, quit_so),
+        ("y left out", 1, (0, 1, 2, 3), 2, refused, quit_so),
+        ("z left out", 2, (0, 1, 2, 3), 2, refused, quit_so),
+        ("one axis is enough", 0, (0, 1, 2, 3), 2, refused, quit_so),
+        ("told after a walk", 0, (0, 0, 0, 6), 17, walks, quit_so),
+        ("not told", 0, (0, 1, 2, 3), 3, quit_so, walks),
+    ):
+        record = curve(on_axis(axis, points), n, 0)
+        found = check_curve(8, record), wrong_checks(8, record)[way]
+        checks.equal(group, f"{way}, {points}, n = {n}", found, (right, wrong))
+    dice = random.Random(9)
+    answered, told = Counter(), Counter()
+    for _ in range(600):
+        side = dice.choice((2, 3, 4, 8, 13, 20))
+        points, n = near_quitting(dice, side)
+        record = curve(points, n, 0)
+        answer, gap = check_curve(side, record), max(abs(points[k] - points[k + 3]) for k in range(9))
+        checks.equal(group, f"from three times the gap on, {record}", quits(record), n >= 3 * gap)
+        checks.equal(group, f"the rule itself, {record}", quits_by(record), quits(record))
+        checks.equal(group, f"no long step where it quits, {record}", quits(record) and steps_too_long(record), False)
+        checks.equal(group, f"from the other end, {record}", check_curve(side, from_other_end(record)), answer)
+        answered[answer] += 1
+        told.update(way for way, wrong in wrong_checks(side, record).items() if wrong != answer)
+    often = {answer for answer, count in answered.items() if count >= 60}
+    checks.equal(group, f"each answer 60 times or more: {answered}", often, {quit_so, walks, refused})
+    few = {way: told[way] for way in WRONG_RULES if told[way] < 15 and way != "n modulo 256"}
+    checks.equal(group, f"wrong rules told apart by 15 curves or more: {told}", few, {})
+
+
 def check_demand_3_can_fail(checks):
     """Document 01's impostors and slips are seen by the checks of demand 3, and strokes that go under wrongly."""
     group = "demand 3, impostors"
@@ -1562,6 +1741,7 @@ def self_check():
         check_totals,
         check_new_cells,
         check_choices,
+        check_quitting,
         check_demand_3_can_fail,
         check_random_calls,
     ):

@@ -6,6 +6,7 @@ use crate::answer::Answer;
 use crate::answer::holding;
 use cases::bytes::low_byte;
 use cases::record::number;
+use curve::CheckAnswer;
 use curve::Curve;
 use decide::Verdict;
 use drawing::Choice;
@@ -29,8 +30,17 @@ pub(crate) fn listed(answer: ListAnswer, list: &[u8]) -> Answer {
     }
 }
 
-// What a check answered, with nothing lent.
-pub(crate) fn checked(verdict: Verdict) -> Answer {
+// What a check of a curve answered, with nothing lent: 1 where the step test quit, 0 where it walked.
+pub(crate) fn curve_checked(answer: CheckAnswer) -> Answer {
+    match answer {
+        CheckAnswer::Quit => holding(b'A', 1, 0, b""),
+        CheckAnswer::Walked => holding(b'A', 0, 0, b""),
+        CheckAnswer::Refused(n) => holding(b'R', n, 0, b""),
+    }
+}
+
+// What a check of a patch answered, with nothing lent.
+pub(crate) fn patch_checked(verdict: Verdict) -> Answer {
     match verdict {
         Verdict::Accepted => holding(b'A', 0, 0, b""),
         Verdict::Refused(n) => holding(b'R', n, 0, b""),

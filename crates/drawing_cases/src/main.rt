@@ -16,15 +16,16 @@
 // has its points in reverse order; its list is then another one, as long as the lent bytes, which are at most 1539. The
 // answers are
 //
-//     A samples new marked first second        accepted; the samples of a check are 0
+//     A count new marked first second          accepted
 //     R number 0 marked first second           refused
 //     N 0 0 marked first second                from its other end refused otherwise, or not the same cells in reverse
 //     F 0 0 marked first second                filled
 //     S bytes bytes bytes bytes 0              shown (hexadecimal)
 //     B                                        no such case
 //
-// where new is the number of the cells that a drawing turned from unmarked to marked, 0 for a listing and a check, and
-// marked, first and second say what the lent bytes hold afterwards (`answer::holding`); a check is lent none.
+// where count is the number of samples, but for a check of a curve 1 if the step test quit and 0 if it walked, and for a
+// check of a patch 0; new is the number of the cells that a drawing turned from unmarked to marked, 0 for a listing and a
+// check; and marked, first and second say what the lent bytes hold afterwards (`answer::holding`); a check is lent none.
 //
 // A case has 22 numbers, hence 199 bytes, and an answer five, hence 47 bytes.
 mod answer;
@@ -36,10 +37,11 @@ ghost use mathlib.Core.Path.{_≡_};
 ghost use Prim.Native.Nat.{_*_, _≤_};
 ghost use lib.ListN.{length};
 use answer::Answer;
-use calls::checked;
+use calls::curve_checked;
 use calls::curve_of;
 use calls::drawn;
 use calls::listed;
+use calls::patch_checked;
 use calls::patch_of;
 use cases::block::Progress;
 use cases::record::number;
@@ -95,8 +97,8 @@ fn answer_case(case: &[u8], buffer: &mut [u8]) -> Answer
     match case[0] {
         b'F' | b'D' | b'L' | b'E' | b'P' => answer_lent(case, buffer),
         b'S' => bytes::show(case, buffer),
-        b'C' => checked(curve::check_curve(number(case, 0), curve_of(case))),
-        b'Q' => checked(patch::check_patch(number(case, 0), patch_of(case))),
+        b'C' => curve_checked(curve::check_curve(number(case, 0), curve_of(case))),
+        b'Q' => patch_checked(patch::check_patch(number(case, 0), patch_of(case))),
         _ => answer::none(),
     }
 }
