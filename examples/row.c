@@ -1,20 +1,33 @@
 /* Draws K12's patch, x of g(i, j) = i + j with n = m = 4, over what the grid holds. y and z are chosen so that its row 2 has
    a line of the cube of its own: y of g(i, j) = j, z = 2 for j = 2 and 0 otherwise; the line is y = 1, z = 1. A curve along
-   the whole line then goes under: it marks the cells that row 2 has left, and row 2 keeps its marks. After each drawing
-   the number of its samples, how many cells are new, and what the line holds are printed. */
+   the whole line is checked, with 9 steps, three times its largest gap, so that the step test quits. Then it goes under:
+   it marks the cells that row 2 has left, and row 2 keeps its marks. After each drawing the number of its samples, how
+   many cells are new, and what the line holds are printed. */
 #include "gidzkhalu.h"
 #include <stdio.h>
 
-enum { SIDE = 8 };
+enum { SIDE = 8, STEPS = 9 };
 
-static int print_drawing(const char *name, int64_t answer, uint32_t new_cells, const uint8_t *line) {
+static int print_refused(const char *name, int64_t answer) {
     if (answer == -GIDZKHALU_REFUSED_LONG_STEP) {
         printf("%s: refused, too few steps\n", name);
-        return 1;
-    }
-    if (answer < 0) {
+    } else {
         printf("%s: refused, %d\n", name, (int)-answer);
-        return 1;
+    }
+    return 1;
+}
+
+static int print_check(int64_t answer) {
+    if (answer < 0) {
+        return print_refused("curve", answer);
+    }
+    printf("curve: can be drawn, the step test %s\n", answer == GIDZKHALU_QUIT ? "quit" : "walked");
+    return 0;
+}
+
+static int print_drawing(const char *name, int64_t answer, uint32_t new_cells, const uint8_t *line) {
+    if (answer < 0) {
+        return print_refused(name, answer);
     }
     printf("%s: %d samples, %d new cells; the line holds", name, (int)answer, (int)new_cells);
     for (int x = 0; x < SIDE; x++) {
@@ -43,6 +56,9 @@ int main(void) {
     if (print_drawing("patch over", answer, new_cells, line) != 0) {
         return 1;
     }
-    answer = gidzkhalu_draw_curve(SIDE, along, sizeof along, 9, 8, GIDZKHALU_UNDER, grid, sizeof grid, &new_cells);
+    if (print_check(gidzkhalu_check_curve(SIDE, along, sizeof along, STEPS)) != 0) {
+        return 1;
+    }
+    answer = gidzkhalu_draw_curve(SIDE, along, sizeof along, STEPS, 8, GIDZKHALU_UNDER, grid, sizeof grid, &new_cells);
     return print_drawing("curve under", answer, new_cells, line);
 }

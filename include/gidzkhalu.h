@@ -1,6 +1,7 @@
 /* The key box for C. Link with libexports.a, which `rt staticlib exports` writes to target/staticlib/.
 
-   Every function answers one signed number: a count (0 or more), or minus the number of the first refusal that applies.
+   Every function answers one signed number: 0 or more where the call is accepted, or minus the number of the first
+   refusal that applies. What an accepted call answers, mostly a count, is said at each function.
    A refused call changes nothing that is lent to it, but for the line that a refused sheet writes into *detail.
    Nothing is kept between calls, no heap is taken, and of other functions only memset is called.
 
@@ -74,6 +75,9 @@ enum {
     GIDZKHALU_REFUSAL_NUMBER_MOST = 99999   /* of a refusal line's number and line */
 };
 
+/* Answers of an accepted gidzkhalu_check_curve: the step test walked, or it quit. */
+enum { GIDZKHALU_WALKED = 0, GIDZKHALU_QUIT = 1 };
+
 /* Choices of a drawing. */
 enum { GIDZKHALU_OVER = 0, GIDZKHALU_UNDER = 1 };
 
@@ -112,22 +116,24 @@ enum {
    of a sample has on each axis the whole number c with c - 1/2 < value <= c + 1/2. The cells of neighbouring samples, of a
    patch those along t and along u, differ by at most one on each axis. */
 
-/* Whether a curve can be drawn. Answer: 0.
+/* Whether a curve can be drawn. Answer: 1 (GIDZKHALU_QUIT) where three times the largest gap between consecutive points,
+   on every axis, is at most steps: no step is too long there, and the step test ends without a walk. Otherwise 0
+   (GIDZKHALU_WALKED): the test has walked along all steps. Listing, drawing and sheets use the same test.
    Refusals: 51, 11, 13, 14, 15.
-   Stack: 184 bytes. Instructions: 12512. Environment: any. */
+   Stack: 112 bytes. Instructions: 4733. Environment: any. */
 int64_t gidzkhalu_check_curve(uint32_t side, const uint8_t *points, size_t points_len, uint32_t steps);
 
 /* Writes x y z of the cell of samples 0 to steps from the front of the list and leaves the rest. Answer:
    steps + 1.
    Refusals: 51, 11, 13, 22 (the list is shorter than 3 (steps + 1) bytes), 14, 15.
-   Stack: 296 bytes. Instructions: 29215. Environment: any. */
+   Stack: 272 bytes. Instructions: 16870. Environment: any. */
 int64_t gidzkhalu_list_curve(uint32_t side, const uint8_t *points, size_t points_len, uint32_t steps,
                              uint8_t *list, size_t list_len);
 
 /* Draws a curve, over or under, and writes the count of new cells, from 0 to steps + 1, into *new_cells. Answer:
    steps + 1.
    Refusals: 51, 55, 11, 21, 12, 13, 14, 15.
-   Stack: 209 bytes. Instructions: 31700. Environment: any. */
+   Stack: 209 bytes. Instructions: 19309. Environment: any. */
 int64_t gidzkhalu_draw_curve(uint32_t side, const uint8_t *points, size_t points_len, uint32_t steps, uint8_t mark,
                              uint32_t choice, uint8_t *grid, size_t grid_len, uint32_t *new_cells);
 
@@ -175,7 +181,7 @@ int64_t gidzkhalu_half_way(uint32_t kind, float a, float b, float c, uint32_t ki
    leaves *new_cells. Answer: the number of curve lines.
    Refusals: 21; then of line 1: 41, 42, 11, 43; then of each later line in turn: 44, 41, 42, 12, 13, 14, 15.
    memset is called for at most 64000 bytes. An input that goes on after 200 curve lines takes no longer.
-   Stack: 321 bytes. Instructions: 6596719. Environment: any. */
+   Stack: 337 bytes. Instructions: 4114121. Environment: any. */
 int64_t gidzkhalu_draw_sheet(const uint8_t *input, size_t input_len, uint8_t *buffer, size_t buffer_len,
                              uint32_t *detail, uint32_t *new_cells);
 

@@ -272,9 +272,7 @@ static size_t bad_points_len(size_t right) {
     return len == right ? right - 1 : len;
 }
 
-/* A grid of side^3 bytes, or a list of 3 (n + 1) bytes and a few more. A cube that is too large gets its 32-bit length.
- */
-static size_t right_length(const struct object_call *call) {
+size_t right_length(const struct object_call *call) {
     uint32_t cube = call->side * call->side * call->side;
     if (call->service == LIST)
         return 3 * ((size_t)(call->n > 1000 ? 1000 : call->n) + 1) + (one_in(2) ? 0 : below(20));
@@ -321,6 +319,92 @@ void random_object(struct object_call *call, uint8_t *points, int large, unsigne
     if (faults & BAD_RECORD)
         call->points_len = bad_points_len(call->points_len);
     call->lent_len = (faults & BAD_LENGTH) != 0 ? bad_length(call) : right_length(call);
+}
+
+/* Curves near where the step test quits */
+
+/* A coordinate at most so far from another. */
+static uint8_t near_to(uint8_t c, uint32_t far, uint32_t side) {
+    return (uint8_t)between(c > far ? c - far : 0, c + far < side ? c + far : side - 1);
+}
+
+/* One axis with a gap of points k and k + 1, in either direction; the other gaps are at most so far. */
+static void gap_axis(uint8_t *points, uint32_t side, uint32_t k, uint32_t gap, uint32_t far) {
+    uint32_t low = below(side - gap), from = one_in(2) ? gap : 0;
+    points[3 * k] = (uint8_t)(low + from);
+    points[3 * (k + 1)] = (uint8_t)(low + gap - from);
+    for (uint32_t i = k; i > 0; i--)
+        points[3 * (i - 1)] = near_to(points[3 * i], far, side);
+    for (uint32_t i = k + 1; i < 3; i++)
+        points[3 * (i + 1)] = near_to(points[3 * i], far, side);
+}
+
+static uint32_t random_gap(uint32_t side) {
+    switch (below(8)) {
+    case 0:
+        return 0;
+    case 1:
+    case 2:
+        return side - 1;
+    default:
+        return below(side);
+    }
+}
+
+/* Three times the gap, one or two above or below; two times; any up to a little more; many. */
+static uint32_t count_near(uint32_t gap) {
+    uint32_t n, enough = 3 * gap;
+    switch (below(8)) {
+    case 0:
+    case 1:
+        n = enough;
+        break;
+    case 2:
+    case 3:
+    case 4:
+        n = enough + below(4) - 1;
+        break;
+    case 5:
+        n = enough + below(4) - 2;
+        break;
+    case 6:
+        n = one_in(2) ? 2 * gap : 512 - below(2);
+        break;
+    default:
+        n = 1 + below(enough + 3);
+    }
+    return 1 <= n && n <= 512 ? n : 1;
+}
+
+/* Past the side with all points on one axis: the gaps stay. */
+static void move_out(uint32_t side, uint8_t *points) {
+    uint32_t axis = below(3);
+    for (uint32_t k = 0; k < 4; k++)
+        points[3 * k + axis] = (uint8_t)(points[3 * k + axis] + side);
+}
+
+void random_gaps(struct object_call *call, uint8_t *points, unsigned faults) {
+    uint32_t gap = random_gap(call->side), axis = below(3), far = gap;
+    if (gap > 0 && !one_in(4))
+        far = one_in(3) ? 0 : below(gap);
+    call->points = points;
+    call->points_len = 12;
+    call->mark = (uint8_t)(1 + below(255));
+    call->choice = below(2);
+    call->n = count_near(gap);
+    random_bytes(points, 64);
+    for (uint32_t a = 0; a < 3; a++)
+        gap_axis(points + a, call->side, below(3), a == axis ? gap : below(far + 1), far);
+    if (faults & BAD_COUNT)
+        bad_count(call, points, faults);
+    if ((faults & BAD_COORDINATE) != 0 && one_in(2))
+        bad_coordinate(call, points);
+    else if (faults & BAD_COORDINATE)
+        move_out(call->side, points);
+    if (faults & BAD_SIDE)
+        call->side = bad_side();
+    if (faults & BAD_RECORD)
+        call->points_len = bad_points_len(call->points_len);
 }
 
 /* Swatches */

@@ -38,6 +38,15 @@ uint32_t bad_side(void);
    one, and changed only by BAD_SIDE. Both choices are as likely. */
 void random_object(struct object_call *call, uint8_t *points, int large, unsigned faults);
 
+/* The same for a curve whose step count is near three times its largest gap of consecutive points, and without a length of
+   the lent buffer. Of the faults it takes those in RECORD_FAULTS. */
+enum { RECORD_FAULTS = BAD_RECORD | BAD_SIDE | BAD_COUNT | BAD_COORDINATE };
+
+void random_gaps(struct object_call *call, uint8_t *points, unsigned faults);
+
+/* A grid of side^3 bytes, or a list of 3 (n + 1) bytes and a few more. A cube that is too large gets its 32-bit length. */
+size_t right_length(const struct object_call *call);
+
 /* The f32 of a bit pattern. */
 float float_of(uint32_t bits);
 

@@ -37,11 +37,13 @@ int index_of(int number);
 struct counts {
     uint64_t answered[NUMBERS], over[NUMBERS][NUMBERS]; /* over: answered while another applied as well */
     uint64_t new_cells, left; /* counts of new cells compared: of accepted drawings, and left by refused ones */
+    uint64_t quit, walked;    /* accepted checks of curves */
 };
 
 void count_order(struct counts *counts, const struct order *order);
 
-/* What a whole run must meet. Entries of drawings over are followed by as many of the same drawings under. */
+/* What a whole run must meet. Entries of drawings over are followed by as many of the same drawings under. The entries of
+   one gap are in the order of its place, 3 x its axis + its first point. */
 #define MET(X)                                                                                                         \
     X(CURVE_HALF_RISING, "curve samples on a half, above the sample before")                                           \
     X(CURVE_HALF_FALLING, "curve samples on a half, below the sample before")                                          \
@@ -73,6 +75,48 @@ void count_order(struct counts *counts, const struct order *order);
     X(LIST_EXACT, "accepted lists of exactly 3 (n + 1) bytes")                                                         \
     X(LIST_SHORT, "22 for a list one byte short")                                                                      \
     X(ENDS_HALF, "curves listed from both ends with a sample on a half")                                               \
+    X(CHECK_QUIT, "checks of curves that quit")                                                                        \
+    X(CHECK_WALKED, "checks of curves accepted after a walk")                                                          \
+    X(QUIT_EXACT, "checks that quit with n = 3 x the largest gap")                                                     \
+    X(QUIT_ABOVE, "checks that quit with n one above 3 x the largest gap")                                             \
+    X(WALKED_BELOW, "checks accepted after a walk with n one below 3 x the largest gap")                               \
+    X(LONG_BELOW, "15 for a curve with n one below 3 x the largest gap")                                               \
+    X(QUIT_X_0, "checks that quit with n = 3 x the gap of points 0 and 1 on x, the largest alone")                     \
+    X(QUIT_X_1, "checks that quit with n = 3 x the gap of points 1 and 2 on x, the largest alone")                     \
+    X(QUIT_X_2, "checks that quit with n = 3 x the gap of points 2 and 3 on x, the largest alone")                     \
+    X(QUIT_Y_0, "checks that quit with n = 3 x the gap of points 0 and 1 on y, the largest alone")                     \
+    X(QUIT_Y_1, "checks that quit with n = 3 x the gap of points 1 and 2 on y, the largest alone")                     \
+    X(QUIT_Y_2, "checks that quit with n = 3 x the gap of points 2 and 3 on y, the largest alone")                     \
+    X(QUIT_Z_0, "checks that quit with n = 3 x the gap of points 0 and 1 on z, the largest alone")                     \
+    X(QUIT_Z_1, "checks that quit with n = 3 x the gap of points 1 and 2 on z, the largest alone")                     \
+    X(QUIT_Z_2, "checks that quit with n = 3 x the gap of points 2 and 3 on z, the largest alone")                     \
+    X(WALKED_X_0, "checks after a walk with n one below 3 x that of points 0 and 1 on x, the largest alone")           \
+    X(WALKED_X_1, "checks after a walk with n one below 3 x that of points 1 and 2 on x, the largest alone")           \
+    X(WALKED_X_2, "checks after a walk with n one below 3 x that of points 2 and 3 on x, the largest alone")           \
+    X(WALKED_Y_0, "checks after a walk with n one below 3 x that of points 0 and 1 on y, the largest alone")           \
+    X(WALKED_Y_1, "checks after a walk with n one below 3 x that of points 1 and 2 on y, the largest alone")           \
+    X(WALKED_Y_2, "checks after a walk with n one below 3 x that of points 2 and 3 on y, the largest alone")           \
+    X(WALKED_Z_0, "checks after a walk with n one below 3 x that of points 0 and 1 on z, the largest alone")           \
+    X(WALKED_Z_1, "checks after a walk with n one below 3 x that of points 1 and 2 on z, the largest alone")           \
+    X(WALKED_Z_2, "checks after a walk with n one below 3 x that of points 2 and 3 on z, the largest alone")           \
+    X(QUIT_EQUAL, "checks of equal points that quit with n = 1")                                                       \
+    X(QUIT_189, "checks that quit with a gap of 63 and n = 189")                                                       \
+    X(WALKED_188, "checks accepted after a walk with a gap of 63 and n = 188")                                         \
+    X(QUIT_512, "checks that quit with n = 512")                                                                       \
+    X(WALKED_ENDS, "checks after a walk where 3 x the gap of points 0 and 3, on every axis, is at most n")             \
+    X(QUIT_LIST, "accepted lists of curves whose test quits")                                                          \
+    X(WALKED_LIST, "accepted lists of curves whose test walks")                                                        \
+    X(QUIT_DRAW, "curves drawn whose test quits")                                                                      \
+    X(WALKED_DRAW, "curves drawn whose test walks")                                                                    \
+    X(QUIT_51, "51 for a curve that would quit by its first 12 bytes")                                                 \
+    X(QUIT_55, "55 for a curve that would quit")                                                                       \
+    X(QUIT_11, "11 for a curve that would quit")                                                                       \
+    X(QUIT_21, "21 for a curve that would quit")                                                                       \
+    X(QUIT_12, "12 for a curve that would quit")                                                                       \
+    X(QUIT_13, "13 for a curve that would quit")                                                                       \
+    X(QUIT_13_0, "13 for equal points with n = 0")                                                                     \
+    X(QUIT_22, "22 for a curve that would quit")                                                                       \
+    X(QUIT_14, "14 for a curve that would quit")                                                                       \
     X(CURVE_OVER_UNMARKED, "curves drawn over, into an unmarked grid")                                                 \
     X(CURVE_OVER_HALF, "curves drawn over, 2 to 3 fifths of the grid marked, some cells new and some not")             \
     X(CURVE_OVER_MARKED, "curves drawn over, into a grid without an unmarked cell")                                    \
@@ -158,6 +202,7 @@ void count_order(struct counts *counts, const struct order *order);
     X(SHEET_APART, "accepted sheets of two curve lines or more without a cell of two")                                 \
     X(SHEET_OVERLAPS, "accepted sheets with cells of two curve lines or more")                                         \
     X(SHEET_COVERED, "accepted sheets with a curve line that has no new cell")                                         \
+    X(SHEET_QUITS, "accepted sheets with lines that quit and lines that walk")                                         \
     X(PART_HEADING, "parts that begin with the heading")                                                               \
     X(PART_PAST, "parts that begin past the cube")                                                                     \
     X(TOTALS_SIDE_2, "totals of side 2")                                                                               \

@@ -55,6 +55,80 @@ static int any_coordinate(const struct object_call *c, uint32_t value) {
     return 0;
 }
 
+/* The largest gap between consecutive points of a curve: the place of the first one, 3 x its axis + its first point, and
+   how many are as large. */
+struct gap {
+    uint32_t size;
+    int place, times;
+};
+
+static struct gap largest_gap(const uint8_t *p) {
+    struct gap largest = {0, 0, 0};
+    for (int place = 0; place < 9; place++) {
+        int from = p[place / 3 + place % 3 * 3], to = p[place / 3 + place % 3 * 3 + 3];
+        uint32_t size = (uint32_t)abs(from - to);
+        if (size > largest.size)
+            largest = (struct gap){size, place, 0};
+        largest.times += size == largest.size;
+    }
+    return largest;
+}
+
+/* Whether three times the gap of points 0 and 3, on every axis, is at most n. */
+static int ends_near(const struct object_call *c) {
+    int near = 1;
+    for (int axis = 0; axis < 3; axis++)
+        near &= 3 * abs(c->points[axis] - c->points[axis + 9]) <= (int)c->n;
+    return near;
+}
+
+static void meet_quit(const struct object_call *c, const struct gap *largest) {
+    int exact = c->n == 3 * largest->size;
+    meet(CHECK_QUIT, 1);
+    meet(QUIT_EXACT, exact);
+    meet(QUIT_ABOVE, c->n == 3 * largest->size + 1);
+    meet((enum met)(QUIT_X_0 + largest->place), exact && largest->times == 1);
+    meet(QUIT_EQUAL, largest->size == 0 && c->n == 1);
+    meet(QUIT_189, largest->size == 63 && c->n == 189);
+    meet(QUIT_512, c->n == 512);
+}
+
+static void meet_walked(const struct object_call *c, const struct gap *largest) {
+    int one_below = c->n + 1 == 3 * largest->size;
+    meet(CHECK_WALKED, 1);
+    meet(WALKED_BELOW, one_below);
+    meet((enum met)(WALKED_X_0 + largest->place), one_below && largest->times == 1);
+    meet(WALKED_188, largest->size == 63 && c->n == 188);
+    meet(WALKED_ENDS, ends_near(c));
+}
+
+/* answer: of the reference. */
+static void meet_accepted_curve(const struct object_call *c, int64_t answer) {
+    struct gap largest = largest_gap(c->points);
+    int quits = test_quits(c);
+    if (c->service == CHECK && answer == GIDZKHALU_QUIT)
+        meet_quit(c, &largest);
+    else if (c->service == CHECK)
+        meet_walked(c, &largest);
+    meet(quits ? QUIT_LIST : WALKED_LIST, c->service == LIST);
+    meet(quits ? QUIT_DRAW : WALKED_DRAW, c->service == DRAW);
+}
+
+/* Of a refused curve with points of 12 bytes or more. */
+static void meet_refused_curve(const struct object_call *c, int64_t answer) {
+    int quits = test_quits(c);
+    meet(LONG_BELOW, answer == -15 && c->n + 1 == 3 * largest_gap(c->points).size);
+    meet(QUIT_51, answer == -51 && quits);
+    meet(QUIT_55, answer == -55 && quits);
+    meet(QUIT_11, answer == -11 && quits);
+    meet(QUIT_21, answer == -21 && quits);
+    meet(QUIT_12, answer == -12 && quits);
+    meet(QUIT_13, answer == -13 && quits);
+    meet(QUIT_13_0, answer == -13 && c->n == 0 && quits);
+    meet(QUIT_22, answer == -22 && quits);
+    meet(QUIT_14, answer == -14 && quits);
+}
+
 /* The values of the last object that passed all numbers before 15, and its cells if it was accepted. */
 static struct samples samples;
 
@@ -111,6 +185,11 @@ static void meet_refused_object(const struct object_call *c, int64_t answer) {
     meet(STEP_ABOVE_ONE, answer == -15 && 50 * longest_step(&samples) < 51 * samples.scale);
 }
 
+static void count_check(const struct object_call *c, int64_t answer) {
+    running.counts->quit += c->service == CHECK && !c->patch && answer == GIDZKHALU_QUIT;
+    running.counts->walked += c->service == CHECK && !c->patch && answer == GIDZKHALU_WALKED;
+}
+
 /* Counts of new cells that were compared. */
 static void count_drawing(int64_t answer) {
     running.counts->new_cells += answer >= 0;
@@ -158,10 +237,15 @@ static int compare_object(struct object_call *c, int64_t *want) {
     c->new_cells = number_at(new_cells.got);
     got = library_object(c);
     count_order(running.counts, &order);
+    count_check(c, *want);
     if (*want >= 0)
         meet_accepted_object(c);
     else
         meet_refused_object(c, *want);
+    if (!c->patch && *want >= 0)
+        meet_accepted_curve(c, *want);
+    else if (!c->patch && c->points_len >= GIDZKHALU_CURVE_BYTES)
+        meet_refused_curve(c, *want);
     agreed = apart == 0 && *want == got && same(&points) && same(&grid);
     if (c->service == DRAW)
         agreed &= compare_new_cells(c, *want, unmarked);
@@ -243,6 +327,36 @@ static int both_ends(void) {
         return 1;
     print_failure(there, back);
     printf("  from its other end the curve does not list the same cells in reverse:\n");
+    c.points = points.want;
+    print_object(&c);
+    return 0;
+}
+
+/* The same record checked, listed and drawn, its step count near three times its largest gap: all three are accepted, or
+   refused with the same number. */
+static int near_quitting(void) {
+    struct object_call c = {CHECK, 0, one_in(16) ? 64 : random_side(), 0, 0, 0, OVER, NULL, 0, NULL, 0, NULL};
+    uint8_t record[64];
+    int64_t checked, listed, drawn;
+    random_gaps(&c, record, random_faults(RECORD_FAULTS));
+    lend_bytes(&points, record, c.points_len);
+    lend(&grid, 0);
+    if (!compare_object(&c, &checked))
+        return 0;
+    c.service = LIST;
+    c.lent_len = right_length(&c);
+    lend(&grid, c.lent_len);
+    if (!compare_object(&c, &listed))
+        return 0;
+    c.service = DRAW;
+    c.lent_len = right_length(&c);
+    lend_cube(&grid, c.lent_len);
+    if (!compare_object(&c, &drawn))
+        return 0;
+    if (listed == drawn && (checked < 0 ? listed == checked : listed == (int64_t)c.n + 1))
+        return 1;
+    print_failure(checked, listed);
+    printf("  a check, a listing and a drawing (%" PRId64 ") do not agree:\n", drawn);
     c.points = points.want;
     print_object(&c);
     return 0;
@@ -405,6 +519,7 @@ static int compare_sheet_count(int64_t curves, const struct strokes *strokes) {
     meet(SHEET_APART, curves > 1 && count == strokes->cells);
     meet(SHEET_OVERLAPS, count < strokes->cells);
     meet(SHEET_COVERED, strokes->without_new > 0);
+    meet(SHEET_QUITS, 0 < strokes->quit && strokes->quit < (uint64_t)curves);
     return count <= strokes->cells && count == sheet_cells() - unmarked_cells(buffer.got, sheet_cells());
 }
 
@@ -1069,6 +1184,47 @@ static int known_choice(size_t k, int axis) {
            known_failed("K1, over or under");
 }
 
+/* One axis of a curve of side 64, the others are 0, or all three alike: what a check answers. */
+static const struct {
+    uint8_t g[4];
+    uint32_t n;
+    int64_t answer;
+} CHECKED[] = {{{0, 1, 2, 3}, 3, GIDZKHALU_QUIT},
+               {{0, 1, 2, 3}, 2, -GIDZKHALU_REFUSED_LONG_STEP},
+               {{0, 0, 0, 1}, 3, GIDZKHALU_QUIT},
+               {{0, 0, 0, 1}, 2, GIDZKHALU_WALKED},
+               {{0, 0, 0, 1}, 1, GIDZKHALU_WALKED},
+               {{0, 0, 0, 6}, 18, GIDZKHALU_QUIT},
+               {{0, 0, 0, 6}, 17, GIDZKHALU_WALKED},
+               {{0, 0, 0, 6}, 16, -GIDZKHALU_REFUSED_LONG_STEP},
+               {{0, 3, 3, 0}, 9, GIDZKHALU_QUIT},
+               {{0, 3, 3, 0}, 8, GIDZKHALU_WALKED},
+               {{0, 3, 3, 0}, 7, -GIDZKHALU_REFUSED_LONG_STEP},
+               {{0, 0, 6, 6}, 18, GIDZKHALU_QUIT},
+               {{0, 0, 6, 6}, 17, GIDZKHALU_WALKED},
+               {{5, 5, 5, 5}, 1, GIDZKHALU_QUIT},
+               {{5, 5, 5, 5}, 0, -GIDZKHALU_REFUSED_STEPS},
+               {{5, 5, 5, 5}, 512, GIDZKHALU_QUIT},
+               {{5, 5, 5, 5}, 513, -GIDZKHALU_REFUSED_STEPS},
+               {{63, 0, 0, 0}, 512, GIDZKHALU_QUIT},
+               {{63, 0, 0, 0}, 256, GIDZKHALU_QUIT},
+               {{63, 0, 0, 0}, 189, GIDZKHALU_QUIT},
+               {{63, 0, 0, 0}, 188, GIDZKHALU_WALKED},
+               {{63, 0, 0, 0}, 187, -GIDZKHALU_REFUSED_LONG_STEP},
+               {{64, 64, 64, 64}, 1, -GIDZKHALU_REFUSED_COORDINATE}};
+
+/* axis: 3 for all. */
+static int known_check(size_t k, int axis) {
+    struct object_call c = {CHECK, 0, 64, CHECKED[k].n, 0, 0, OVER, NULL, 12, NULL, 0, NULL};
+    uint8_t record[12] = {0};
+    int64_t answer;
+    for (int at = 0; at < 12; at++)
+        record[at] = at % 3 == axis || axis == 3 ? CHECKED[k].g[at / 3] : 0;
+    lend_bytes(&points, record, 12);
+    lend(&grid, 0);
+    return (compare_object(&c, &answer) && answer == CHECKED[k].answer) || known_failed("of checks");
+}
+
 /* K12: x of g(i, j) is i + j; row 2 along t. No call lists a patch: the reference has the row, the grids agree. Its cells
    are those with x from 0 to 6. */
 static int known_patch(void) {
@@ -1198,6 +1354,9 @@ static int document_samples(void) {
     for (size_t k = 0; k < sizeof CHOSEN / sizeof *CHOSEN; k++)
         for (int axis = 0; axis < 3; axis++)
             good &= known_choice(k, axis);
+    for (size_t k = 0; k < sizeof CHECKED / sizeof *CHECKED; k++)
+        for (int axis = 0; axis <= 3; axis++)
+            good &= known_check(k, axis);
     return good;
 }
 
@@ -1222,6 +1381,7 @@ static const struct kind {
             {"list curve", 2000000, list_curve, {LIST_ORDER, NULL}},
             {"draw curve", 2000000, draw_curve, {DRAW_ORDER, NULL}},
             {"both ends", 500000, both_ends, {LIST_ORDER, NULL}},
+            {"near quitting", 500000, near_quitting, {CHECK_ORDER, NULL}},
             {"check patch", 1000000, check_patch, {CHECK_ORDER, NULL}},
             {"draw patch", 1000000, draw_patch, {DRAW_ORDER, NULL}},
             {"swatch to cell", 4000000, to_cell, {CELL_ORDER, NULL}},
@@ -1262,6 +1422,8 @@ static void print_counts(const struct counts *c) {
             printf("  accepted %" PRIu64, c->answered[k]);
         else if (c->answered[k] > 0)
             printf("  %d: %" PRIu64, NUMBER[k], c->answered[k]);
+    if (c->quit + c->walked > 0)
+        printf("  checks quit %" PRIu64 ", walked %" PRIu64, c->quit, c->walked);
     if (c->new_cells + c->left > 0)
         printf("  new cells %" PRIu64 ", left %" PRIu64, c->new_cells, c->left);
     printf("\n");
@@ -1339,11 +1501,13 @@ static int print_met(void) {
 
 /* Prints the answers of all kinds; answers the number of calls. */
 static uint64_t print_totals(void) {
-    struct counts total = {{0}, {{0}}, 0, 0};
+    struct counts total = {{0}, {{0}}, 0, 0, 0, 0};
     uint64_t calls_made = 0;
     for (int kind = 0; kind < KINDS; kind++) {
         total.new_cells += counted[kind].new_cells;
         total.left += counted[kind].left;
+        total.quit += counted[kind].quit;
+        total.walked += counted[kind].walked;
         for (int k = 0; k < NUMBERS; k++) {
             total.answered[k] += counted[kind].answered[k];
             calls_made += counted[kind].answered[k];

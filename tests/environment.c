@@ -265,21 +265,21 @@ static struct function {
     uint64_t cases;
     int can_change[ENVIRONMENTS]; /* where the default environment is needed: those that change some call */
     int stated;                   /* 'd' for the default environment, 'a' for any, 0 if nothing is stated */
-    uint64_t accepted, differ[ENVIRONMENTS];
+    uint64_t accepted, quit, differ[ENVIRONMENTS]; /* quit: of the accepted checks of curves */
     char first[ENVIRONMENTS][SENTENCE]; /* the first input that differs */
 } functions[] = {
-    {"check_curve", check_curve, 50000, {0}, 0, 0, {0}, {{0}}},
-    {"list_curve", list_curve, 50000, {0}, 0, 0, {0}, {{0}}},
-    {"draw_curve", draw_curve, 50000, {0}, 0, 0, {0}, {{0}}},
-    {"check_patch", check_patch, 20000, {0}, 0, 0, {0}, {{0}}},
-    {"draw_patch", draw_patch, 20000, {0}, 0, 0, {0}, {{0}}},
+    {"check_curve", check_curve, 50000, {0}, 0, 0, 0, {0}, {{0}}},
+    {"list_curve", list_curve, 50000, {0}, 0, 0, 0, {0}, {{0}}},
+    {"draw_curve", draw_curve, 50000, {0}, 0, 0, 0, {0}, {{0}}},
+    {"check_patch", check_patch, 20000, {0}, 0, 0, 0, {0}, {{0}}},
+    {"draw_patch", draw_patch, 20000, {0}, 0, 0, 0, {0}, {{0}}},
     /* A channel up to 1/128 has the coordinate 0, so a result that is flushed to 0 changes no cell. */
-    {"to_cell", to_cell, 200000, {0, 0, 1, 1, 1, 1, 1, 1}, 0, 0, {0}, {{0}}},
-    {"half_way", half_way, 200000, {0, 1, 1, 1, 1, 1, 1, 1}, 0, 0, {0}, {{0}}},
-    {"draw_sheet", draw_sheet, 10000, {0}, 0, 0, {0}, {{0}}},
-    {"list_part", list_part, 50000, {0}, 0, 0, {0}, {{0}}},
-    {"totals", totals, 20000, {0}, 0, 0, {0}, {{0}}},
-    {"refusal_line", refusal_line, 50000, {0}, 0, 0, {0}, {{0}}},
+    {"to_cell", to_cell, 200000, {0, 0, 1, 1, 1, 1, 1, 1}, 0, 0, 0, {0}, {{0}}},
+    {"half_way", half_way, 200000, {0, 1, 1, 1, 1, 1, 1, 1}, 0, 0, 0, {0}, {{0}}},
+    {"draw_sheet", draw_sheet, 10000, {0}, 0, 0, 0, {0}, {{0}}},
+    {"list_part", list_part, 50000, {0}, 0, 0, 0, {0}, {{0}}},
+    {"totals", totals, 20000, {0}, 0, 0, 0, {0}, {{0}}},
+    {"refusal_line", refusal_line, 50000, {0}, 0, 0, 0, {0}, {{0}}},
 };
 
 enum { FUNCTIONS = sizeof functions / sizeof *functions };
@@ -318,6 +318,7 @@ static void run_case(int k, uint64_t number) {
     size_t len = lent_len;
     memcpy(plain, now, len);
     functions[k].accepted += want >= 0;
+    functions[k].quit += functions[k].call == check_curve && want == GIDZKHALU_QUIT;
     for (int e = DEFAULT + 1; e < ENVIRONMENTS; e++) {
         got = answer_of(k, number, (enum environment)e);
         if (got == want && memcmp(now, plain, len) == 0)
@@ -344,8 +345,10 @@ static int run_function(int k) {
         run_case(k, number);
     for (int e = DEFAULT + 1; e < ENVIRONMENTS; e++)
         same &= f->differ[e] == 0;
-    printf("%-13s %6" PRIu64 " inputs, %6" PRIu64 " accepted%s\n", f->name, f->cases, f->accepted,
-           same ? ": the same under all" : "");
+    printf("%-13s %6" PRIu64 " inputs, %6" PRIu64 " accepted", f->name, f->cases, f->accepted);
+    if (f->call == check_curve)
+        printf(", %" PRIu64 " of them without a walk", f->quit);
+    printf("%s\n", same ? ": the same under all" : "");
     for (int e = DEFAULT + 1; e < ENVIRONMENTS && !same; e++)
         printf("    %s: %" PRIu64 " differ%s%s\n", ENVIRONMENT[e], f->differ[e], f->differ[e] > 0 ? ", first " : "",
                f->first[e]);
@@ -353,6 +356,10 @@ static int run_function(int k) {
         good &= as_stated(f, e);
     if (f->stated == 'd' && same) {
         printf("FAILED: %s takes any environment; stated is 'Environment: default'\n", f->name);
+        good = 0;
+    }
+    if (f->call == check_curve && (f->quit == 0 || f->quit == f->accepted)) {
+        printf("FAILED: %s has not both quit and walked\n", f->name);
         good = 0;
     }
     if (f->accepted > 0 && f->accepted < f->cases)

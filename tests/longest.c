@@ -46,11 +46,13 @@ static void fill_grid(uint8_t byte) {
 
 #define SIZE(table) (sizeof(table) / sizeof *(table))
 
-/* Curves: the most steps at the largest side, so that no step is long and all samples are walked. A sample takes longer
-   where its cell moves, down more than up. Of all curves of one axis FALLS has the most moves down; UP_AND_DOWN and
-   DOWN_AND_UP have the most where a move down takes twice as much more as a move up. Each is drawn over and under, into an
-   unmarked grid, where its cells are new, and into a marked one. Under, a sample takes longer where its cell is new: a
-   curve and a patch that wind through many cells are there as well. */
+/* Curves: the largest side. The step test walks along all steps of all axes where three times the largest gap is above
+   the steps and no step is too long. No gap is above 63, so the longest walk has 188 steps, and a check takes longest
+   there. Listing and drawing go through all samples as well, and take longest with 512 steps, though the test quits
+   there. A sample takes longer where its cell moves, down more than up. Of all curves of one axis FALLS has the most
+   moves down; UP_AND_DOWN and DOWN_AND_UP have the most where a move down takes twice as much more as a move up. Each
+   is drawn over and under, into an unmarked grid, where its cells are new, and into a marked one. Under, a sample takes
+   longer where its cell is new: a curve and a patch that wind through many cells are there as well. */
 enum pattern { FALLS, UP_AND_DOWN, DOWN_AND_UP, RISES, STAYS, PATTERNS };
 
 static const char *const PATTERN[PATTERNS] = {"falls", "up and down", "down and up", "rises", "stays"};
@@ -132,13 +134,26 @@ static void winding_curve(struct drawing drawing) {
     printf("winds through many cells\n");
 }
 
-/* The last curve has the latest long step that there is: the last of 187, on z. */
+enum { WALKED_MOST = 3 * (SIDE - 1) - 1 };
+
+/* The latest long step that there is: the last of 187, on z. */
+static void late_curve(int service) {
+    static const uint8_t points[GIDZKHALU_CURVE_BYTES] = {0, 0, 0, 0, 0, 0, 0, 0, 0, 0, 0, SIDE - 1};
+    curve_of(service, WALKED_MOST - 1, points, DRAWINGS[0]);
+    printf("the last step on z is too long\n");
+}
+
+/* With the steps at which a call takes longest all combinations, with the others those of one pattern. */
 static void curves(int service) {
-    struct axes late = {STAYS, STAYS, RISES};
-    for (int number = 0; number < COMBINATIONS; number++)
-        for (size_t k = 0; k < (service == 2 ? SIZE(DRAWINGS) : 1); k++)
-            curve(service, GIDZKHALU_CURVE_STEPS_MOST, axes_of(number), DRAWINGS[k]);
-    curve(service, 187, late, DRAWINGS[0]);
+    static const uint32_t steps[] = {WALKED_MOST, GIDZKHALU_CURVE_STEPS_MOST};
+    for (int number = 0; number < COMBINATIONS; number++) {
+        struct axes axes = axes_of(number);
+        for (int most = 0; most < 2; most++)
+            for (size_t k = 0; k < (service == 2 ? SIZE(DRAWINGS) : 1); k++)
+                if (most == (service > 0) || (axes.x == axes.y && axes.x == axes.z))
+                    curve(service, steps[most], axes, DRAWINGS[k]);
+    }
+    late_curve(service);
 }
 
 static void check_curves(void) { curves(0); }
@@ -150,8 +165,9 @@ static void draw_curves(void) {
         winding_curve(DRAWINGS[k]);
 }
 
-/* Patches: as curves, 256 x 256 steps, every row the same along t. Along u there is one walk, through the rows' first
-   cells, so moves there count for little: some patches have them, and stay along t. */
+/* Patches: 256 x 256 steps at the largest side, so that no step is long and the step test walks along all. Samples are as
+   those of curves, and every row is the same along t. Along u there is one walk, through the rows' first cells, so moves
+   there count for little: some patches have them, and stay along t. */
 static void draw_patch(const uint8_t points[GIDZKHALU_PATCH_BYTES], struct drawing drawing) {
     uint32_t most = GIDZKHALU_PATCH_STEPS_MOST;
     int64_t answer;
@@ -267,9 +283,10 @@ static void half_ways(void) {
     }
 }
 
-/* Sheets: 200 lines of 512 steps at side 40, each read, checked and drawn. A field takes longer with more digits, so the
-   least coordinate is 0 or 10. A sheet that is refused draws nothing: the last ones are refused for the bytes after their
-   200 lines, one or many. */
+/* Sheets: 200 lines of 512 steps at side 40, each read, checked and drawn. The step test of these lines quits; no gap
+   is above 39, so the longest walk has 116 steps, and some sheets have lines with that. A field takes longer with more
+   digits, so the least coordinate is 0 or 10. A sheet that is refused draws nothing: the last ones are refused for the
+   bytes after their 200 lines, one or many. */
 enum { SIDE_LINE = 6, LINE = 71, LINES = GIDZKHALU_SHEET_CURVES_MOST, WHOLE = SIDE_LINE + LINES * LINE, TAIL = 100000 };
 
 static uint8_t sheet[WHOLE + TAIL], buffer[GIDZKHALU_SHEET_BUFFER_BYTES];
@@ -280,9 +297,9 @@ static void put_field(uint8_t *to, unsigned number) {
     memcpy(to, field, 5);
 }
 
-static void put_line(uint8_t *line, struct axes axes, uint8_t least) {
+static void put_line(uint8_t *line, unsigned steps, struct axes axes, uint8_t least) {
     put_field(line, 255);
-    put_field(line + 5, GIDZKHALU_CURVE_STEPS_MOST);
+    put_field(line + 5, steps);
     for (int k = 0; k < 4; k++) {
         uint8_t point[3];
         put_point(point, axes, k, GIDZKHALU_SHEET_SIDE_MOST - 1);
@@ -292,29 +309,32 @@ static void put_line(uint8_t *line, struct axes axes, uint8_t least) {
     line[LINE - 1] = '\n';
 }
 
-static void sheet_of(struct axes axes, uint8_t least, size_t more) {
+static void sheet_of(unsigned steps, struct axes axes, uint8_t least, size_t more) {
     int64_t answer;
     put_field(sheet, GIDZKHALU_SHEET_SIDE_MOST);
     sheet[SIDE_LINE - 1] = '\n';
     for (int line = 0; line < LINES; line++)
-        put_line(sheet + SIDE_LINE + LINE * line, axes, least);
+        put_line(sheet + SIDE_LINE + LINE * line, steps, axes, least);
     answer = gidzkhalu_draw_sheet(sheet, WHOLE + more, buffer, sizeof buffer, &detail, &new_cells);
-    printf("%" PRId64 ": side %d, %d lines of %d steps, coordinates from %d, ", answer, GIDZKHALU_SHEET_SIDE_MOST, LINES,
-           GIDZKHALU_CURVE_STEPS_MOST, least);
+    printf("%" PRId64 ": side %d, %d lines of %u steps, coordinates from %d, ", answer, GIDZKHALU_SHEET_SIDE_MOST, LINES,
+           steps, least);
     print_axes(axes);
 }
 
 static void sheets(void) {
+    unsigned most = GIDZKHALU_CURVE_STEPS_MOST, walked = 3 * (GIDZKHALU_SHEET_SIDE_MOST - 1) - 1;
     struct axes falls = {FALLS, FALLS, FALLS};
     for (int number = 0; number < COMBINATIONS; number++) {
         struct axes axes = axes_of(number);
         if (axes.x == axes.y && axes.x != STAYS && axes.z != STAYS) {
-            sheet_of(axes, 0, 0);
-            sheet_of(axes, 10, 0);
+            sheet_of(most, axes, 0, 0);
+            sheet_of(most, axes, 10, 0);
+            if (axes.x == axes.z)
+                sheet_of(walked, axes, 0, 0);
         }
     }
-    sheet_of(falls, 0, 1);
-    sheet_of(falls, 0, TAIL);
+    sheet_of(most, falls, 0, 1);
+    sheet_of(most, falls, 0, TAIL);
 }
 
 /* Listings: the whole cube of side 64 with every cell marked; a number takes longer with more digits. */

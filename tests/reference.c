@@ -95,6 +95,25 @@ wide longest_step(const struct samples *s) {
     return longest;
 }
 
+/* Where the step test of a curve quits */
+
+static wide largest_gap_along(const uint8_t *points, int axis) {
+    wide largest = 0;
+    for (int k = 0; k < 3; k++) {
+        wide gap = distance(points[3 * k + axis], points[3 * (k + 1) + axis]);
+        if (gap > largest)
+            largest = gap;
+    }
+    return largest;
+}
+
+int test_quits(const struct object_call *c) {
+    int on_every_axis = 1;
+    for (int axis = 0; axis < 3; axis++)
+        on_every_axis &= 3 * largest_gap_along(c->points, axis) <= c->n;
+    return on_every_axis;
+}
+
 /* Cells */
 
 /* A cell c owns the values above c - 1/2 up to and including c + 1/2: what is more than a half past the whole part goes to
@@ -246,7 +265,7 @@ int64_t reference_object(const struct object_call *c, struct order *order, struc
         return -order_first(order);
     take_cells(s);
     if (c->service == CHECK)
-        return 0;
+        return c->patch ? 0 : test_quits(c);
     if (c->service == LIST)
         list_cells(s, c->lent);
     else
@@ -687,6 +706,7 @@ static void draw_stroke(const uint32_t *number, const uint8_t *points, struct dr
     d->new_cells += new_cells;
     d->strokes.cells += different_cells(&samples, d->side);
     d->strokes.without_new += new_cells == 0;
+    d->strokes.quit += test_quits(&curve) != 0;
 }
 
 /* Judges line number `at` and draws it if no number applies. */
@@ -725,7 +745,7 @@ int64_t reference_draw_sheet(const uint8_t *input, size_t input_len, uint8_t *bu
     size_t cells;
     uint32_t at;
     drawing.new_cells = 0;
-    drawing.strokes = (struct strokes){0, 0};
+    drawing.strokes = (struct strokes){0, 0, 0};
     at = sheet_lines(input, input_len, &drawing, &of_line);
     order_add(order, 21, buffer_len != BUFFER);
     for (int k = 0; k < of_line.length; k++)

@@ -54,13 +54,18 @@ void exact_values(const struct object_call *call, struct samples *samples);
 /* The largest distance of two neighbours on an axis, times scale. */
 wide longest_step(const struct samples *samples);
 
+/* Whether the step test of a curve quits: three times the largest gap between consecutive points, on every axis, is at
+   most n. Points of 12 bytes or more must be there; no other number of the call is looked at. */
+int test_quits(const struct object_call *call);
+
 /* Adds the numbers of samples that lie on a half on some axis, above the sample before them or below it, and of those so
    near to a half that no value of their scale, above 8, lies between. The sample before is that along t, and along u
    where a row begins. */
 void count_ties(const struct samples *samples, uint64_t *rising, uint64_t *falling, uint64_t *beside);
 
-/* An accepted call leaves the object's values and cells in samples. The new cells of a drawing are the unmarked cells of
-   the whole grid before it minus those after it. */
+/* An accepted call leaves the object's values and cells in samples. A check of a curve answers 1 where the test quits and 0
+   where not; 15 is found from the exact samples in any case. The new cells of a drawing are the unmarked cells of the whole
+   grid before it minus those after it. */
 int64_t reference_object(const struct object_call *call, struct order *order, struct samples *samples);
 
 /* The bytes 0 of a grid. */
@@ -125,9 +130,10 @@ int channels_on_half(uint32_t side, const struct swatch *swatch);
 int64_t reference_half_way(const struct swatch *first, const struct swatch *second, uint8_t *channels,
                            size_t channels_len, struct order *order);
 
-/* The curve lines of an accepted sheet: the different cells of each, added up, and how many lines have no new cell. */
+/* The curve lines of an accepted sheet: the different cells of each, added up, how many lines have no new cell, and of how
+   many the step test quits. */
 struct strokes {
-    uint64_t cells, without_new;
+    uint64_t cells, without_new, quit;
 };
 
 /* The new cells are those of each curve line in turn, added up; they are compared with the marked bytes of the cube. */

@@ -153,13 +153,13 @@ enum { NUMBERS = 56, WORDS = 100 };
 
 static struct figure {
     const char *name;
-    int number[12]; /* what it can answer: 0 for an accepted call, then the refusal numbers, then 0 */
+    int number[12]; /* what it can answer: 0 for an accepted call, 1 for a check that quit, the refusal numbers, 0 */
     long stated;    /* -1 if none is */
     size_t most, at_memset, most_of[NUMBERS];
     int64_t answer; /* to the first call that took the most */
     char input[WORDS];
 } figures[FUNCTIONS] = {
-    {"check_curve", {0, 51, 11, 13, 14, 15}, -1, 0, 0, {0}, 0, ""},
+    {"check_curve", {0, GIDZKHALU_QUIT, 51, 11, 13, 14, 15}, -1, 0, 0, {0}, 0, ""},
     {"list_curve", {0, 51, 11, 13, 22, 14, 15}, -1, 0, 0, {0}, 0, ""},
     {"draw_curve", {0, 51, 55, 11, 21, 12, 13, 14, 15}, -1, 0, 0, {0}, 0, ""},
     {"check_patch", {0, 51, 11, 13, 14, 15}, -1, 0, 0, {0}, 0, ""},
@@ -174,8 +174,15 @@ static struct figure {
 
 static uint64_t calls_made;
 
+/* What is counted as one answer: accepted calls are, but for those of a check of a curve, which quit or walked. */
+static size_t number_of(const struct figure *figure, int64_t answer) {
+    if (answer < 0)
+        return (size_t)-answer;
+    return figure == &figures[CHECK_CURVE] ? (size_t)answer : 0;
+}
+
 static void record(struct figure *figure, int64_t answer, struct taken taken, const char words[WORDS]) {
-    size_t number = answer < 0 ? (size_t)-answer : 0;
+    size_t number = number_of(figure, answer);
     if (number >= NUMBERS) {
         printf("FAILED: %s answered %" PRId64 "\n", figure->name, answer);
         exit(1);
@@ -268,8 +275,9 @@ static void measure_object(const struct object_call *c) {
 /* The least and the greatest, with the first and the last that are refused. */
 static const uint32_t SIDES[] = {0, 1, 2, 3, 40, 41, 64, 65, 0xFFFFFFFF};
 
-/* With side 64 and 187 steps, the one long step of a curve whose first or last point lies alone is beside it. */
-static const uint32_t CURVE_COUNTS[] = {0, 1, 2, 3, 187, 188, 511, 512, 513, 0xFFFFFFFF};
+/* With side 64 and 187 steps, the one long step of a curve whose first or last point lies alone is beside it. With 188
+   steps there is none, and the step test walks; with 189 it quits. */
+static const uint32_t CURVE_COUNTS[] = {0, 1, 2, 3, 187, 188, 189, 511, 512, 513, 0xFFFFFFFF};
 static const uint32_t PATCH_COUNTS[] = {0, 1, 2, 187, 256, 257};
 
 /* Coordinates of the points, the same on the three axes; out is the least that is refused. */
@@ -544,8 +552,9 @@ static void whole_sheets(unsigned side, size_t lines, unsigned steps) {
     }
 }
 
+/* At side 40 the step test of a line walks with 116 steps and quits with 117. */
 static void chosen_sheets(void) {
-    static const unsigned sides[] = {0, 1, 2, 3, 39, 40, 41, 64, 65, 99999}, steps[] = {0, 1, 3, 120, 512, 513};
+    static const unsigned sides[] = {0, 1, 2, 3, 39, 40, 41, 64, 65, 99999}, steps[] = {0, 1, 3, 116, 117, 512, 513};
     static const size_t lines[] = {0, 1, 2, LINES - 1, LINES, LINES + 1};
     measure_sheet(0, BUFFER);
     for (size_t s = 0; s < SIZE(sides); s++)
@@ -732,7 +741,9 @@ static int print_by_answer(void) {
         printf("%-13s accepted %zu", f->name, f->most_of[0]);
         for (size_t n = 0; n < SIZE(f->number) && (n == 0 || f->number[n] != 0); n++) {
             all &= f->most_of[f->number[n]] > 0;
-            if (n > 0)
+            if (f->number[n] == GIDZKHALU_QUIT)
+                printf(" after a walk, %zu without", f->most_of[f->number[n]]);
+            else if (n > 0)
                 printf(", %d: %zu", f->number[n], f->most_of[f->number[n]]);
         }
         printf("\n");
