@@ -6,6 +6,7 @@
 #include <string.h>
 
 #include "box.h"
+#include "gaps.h"
 #include "inputs.h"
 #include "totals.h"
 
@@ -96,8 +97,8 @@ static answer make(call_fn *call, const struct box *box, uint8_t *lent)
     return call(box, lent);
 }
 
-/* One call by all, each on the same room bytes. */
-static void agree(const char *name, call_fn *call, size_t room)
+/* One call by all, each on the same room bytes. Answers what they answer. */
+static answer agree(const char *name, call_fn *call, size_t room)
 {
     memcpy(expected, before, room);
     answer want = make(call, &library, expected);
@@ -112,17 +113,18 @@ static void agree(const char *name, call_fn *call, size_t room)
                (unsigned long)detail, (unsigned long)new_cells, memcmp(after, expected, room) ? "differ" : "agree");
         exit(1);
     }
+    return want;
 }
 
 /* The inputs. */
 
-static void take_curve(int k)
+static void take_curve(int s, int k)
 {
     in.side = SIDE;
-    in.n = STEPS;
+    in.n = strokes[s].steps;
     in.mark = (uint8_t)(1 + k % 255);
     in.points_len = 12;
-    memcpy(in.points, curves[k], 12);
+    memcpy(in.points, curves[strokes[s].set][k], 12);
 }
 
 static void take_patch(int set, int k)
@@ -162,10 +164,20 @@ static void agree_on_choices(const char *name, call_fn *call)
         agree(name, call, ROOM);
 }
 
-static void agree_on_curve(int k)
+/* The check has the answer that is known of its input. */
+static void agree_on_check(answer known)
 {
-    take_curve(k);
-    agree("check_curve", call_check_curve, 0);
+    answer got = agree("check_curve", call_check_curve, 0);
+    if (got != known) {
+        printf("check_curve: all answer %lld, not %lld\n", (long long)got, (long long)known);
+        exit(1);
+    }
+}
+
+static void agree_on_curve(int s, int k)
+{
+    take_curve(s, k);
+    agree_on_check(strokes[s].check);
     in.lent_len = 3 * (STEPS + 1);
     agree("list_curve", call_list_curve, in.lent_len + 1);
     in.lent_len = CELLS;
@@ -196,9 +208,29 @@ static void agree_on_totals(void)
     agree("totals", call_totals, TOTALS_TEXT + 1);
 }
 
+static uint32_t field(const uint8_t *line, int k)
+{
+    return (uint32_t)strtoul((const char *)line + 5 * k, NULL, 10);
+}
+
+/* The strokes of the sheet that was taken last. */
+static void agree_on_strokes(void)
+{
+    in.side = SHEET_SIDE;
+    in.points_len = 12;
+    for (int line = 0; line < SHEET_LINES; line++) {
+        const uint8_t *at = in.input + 6 + 71 * line;
+        in.n = field(at, 1);
+        for (int i = 0; i < 12; i++)
+            in.points[i] = (uint8_t)field(at, 2 + i);
+        agree_on_check(QUIT);
+    }
+}
+
 static void agree_on_sheet(int set, int k)
 {
     take_sheet(set, k);
+    agree_on_strokes();
     agree("draw_sheet", call_draw_sheet, SHEET_CELLS + 1);
     take_cube(SHEET_SIDE, expected);
     agree_on_totals();
@@ -218,8 +250,9 @@ static void fill_before(void)
 void agree_on_inputs(void)
 {
     fill_before();
-    for (int k = 0; k < CURVES; k++)
-        agree_on_curve(k);
+    for (int s = 0; s < STROKES; s++)
+        for (int k = 0; k < CURVES; k++)
+            agree_on_curve(s, k);
     for (int set = 0; set < 2; set++) {
         for (int k = 0; k < PATCHES; k++)
             agree_on_patch(set, k);
@@ -282,13 +315,29 @@ static void some_record(int points, uint32_t most)
         in.lent_len = 27 + random_below(2);
 }
 
-static void some_curve(void)
+/* Of the record that was taken last. */
+static void agree_on_record(void)
 {
-    some_record(4, 512);
     agree("draw_curve", call_draw_curve, ROOM);
     agree("check_curve", call_check_curve, 0);
     in.lent_len = 3 * (size_t)in.n + random_below(4);
     agree("list_curve", call_list_curve, 3 * 600);
+}
+
+static void some_curve(void)
+{
+    some_record(4, 512);
+    agree_on_record();
+}
+
+/* A step count from which on the step test quits, or one less or more. */
+static void some_curve_beside_quitting(void)
+{
+    some_record(4, 512);
+    in.n = 3 * largest_gap(in.points) + random_below(3);
+    if (in.n > 0)
+        in.n--;
+    agree_on_record();
 }
 
 static void some_patch(void)
@@ -426,6 +475,7 @@ void agree_on_random_calls(void)
     seed(51);
     fill_before();
     repeat(4000, some_curve);
+    repeat(4000, some_curve_beside_quitting);
     repeat(1000, some_patch);
     repeat(1000000, some_swatches);
     repeat(1000, some_sheet);
@@ -469,7 +519,7 @@ static void wrong_curves(void)
 {
     size_t count = 0;
     for (int k = 0; k < CURVES; k++) {
-        take_curve(k);
+        take_curve(BOXED_512, k);
         in.lent_len = 3 * (STEPS + 1);
         both(call_list_curve, zeros, in.lent_len);
         count += wrong(in.lent_len, 3);
@@ -483,7 +533,7 @@ static void wrong_curves_under(void)
     size_t count = 0, of = 0;
     in.choice = UNDER;
     for (int k = 0; k < CURVES; k++) {
-        take_curve(k);
+        take_curve(BOXED_512, k);
         in.lent_len = CELLS;
         of += both(call_draw_curve, before, CELLS);
         count += wrong(CELLS, 1);

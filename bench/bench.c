@@ -1,14 +1,15 @@
-/* The library beside (a) same.c, (b) direct.c and (c) usual.c.
+/* The library beside (a) same.c, (b) direct.c and (c) usual.c; compiled with BEFORE also beside another build of it.
 
      bench check             library, (a) and (b) give the same bytes; the cells that (c) gets wrong
      bench times P N [R..]   N rounds of every row, or of the rows R..: a line with P, the row's number and the
-                             nanoseconds a unit of library, (a), (b) and (c)
+                             nanoseconds a unit of library, (a), (b), (c) and the other build
      bench table             the table made of such lines from standard input; P tells apart where code was placed
-     bench rows              for each row its number, name, unit and functions
-     bench count R K         one run of row R by box K (0 the library, 1 to 3 the others), for instructions to be
+     bench rows [R..]        for each row its number, name, unit and functions
+     bench count R K         one run of row R by box K (0 the library, 1 to 4 the others), for instructions to be
                              counted from outside; prints its units */
 #define _POSIX_C_SOURCE 199309L
 #include <math.h>
+#include <stdbool.h>
 #include <stdio.h>
 #include <stdlib.h>
 #include <string.h>
@@ -19,9 +20,24 @@
 #include "inputs.h"
 #include "totals.h"
 
-enum { BOXES = 4, PLACES = 4, PARTS = 4, PART = SHEET_CELLS / PARTS, MOST = 1 << 15 };
+static const struct box boxes[] = {
+    BOX(gidzkhalu),
+    BOX(same),
+    BOX(direct),
+    BOX(usual),
+#ifdef BEFORE
+    BOX(before),
+#endif
+};
 
-static const struct box boxes[BOXES] = {BOX(gidzkhalu), BOX(same), BOX(direct), BOX(usual)};
+enum {
+    BOXES = sizeof boxes / sizeof *boxes,
+    OTHER_BUILD = 4,
+    PLACES = 4,
+    PARTS = 4,
+    PART = SHEET_CELLS / PARTS,
+    MOST = 1 << 15
+};
 
 static uint8_t grid[CELLS], list[3 * (STEPS + 1)], buffer[SHEET_CELLS], text[21 * (PART + 1) + 1];
 static uint8_t cubes[2][SHEETS][SHEET_CELLS];
@@ -72,30 +88,61 @@ static void prepare_grid(int way, int k, int together)
     }
 }
 
+/* Short calls are made over the set so many times, so that a run takes as long as others. */
+static int times_over = 32;
+
+static size_t draw_strokes(const struct box *box, int s, int way, int times)
+{
+    uint32_t n = strokes[s].steps, new_cells;
+    for (int k = 0; k < times * CURVES; k++) {
+        const uint8_t *points = curves[strokes[s].set][k % CURVES];
+        prepare_grid(way, k, 16);
+        total += box->draw_curve(SIDE, points, 12, n, 1, choice_of(way), grid, CELLS, &new_cells);
+    }
+    return (size_t)times * CURVES;
+}
+
+static size_t list_strokes(const struct box *box, int s, int times)
+{
+    for (int k = 0; k < times * CURVES; k++) {
+        const uint8_t *points = curves[strokes[s].set][k % CURVES];
+        total += box->list_curve(SIDE, points, 12, strokes[s].steps, list, sizeof list);
+    }
+    return (size_t)times * CURVES;
+}
+
+static size_t check_curves(const struct box *box, int s)
+{
+    for (int k = 0; k < times_over * CURVES; k++) {
+        const uint8_t *points = curves[strokes[s].set][k % CURVES];
+        total += box->check_curve(SIDE, points, 12, strokes[s].steps);
+    }
+    return (size_t)times_over * CURVES;
+}
+
 static size_t draw_curves(const struct box *box, int way)
 {
-    uint32_t new_cells;
-    for (int k = 0; k < CURVES; k++) {
-        prepare_grid(way, k, 16);
-        total += box->draw_curve(SIDE, curves[k], 12, STEPS, 1, choice_of(way), grid, CELLS, &new_cells);
-    }
-    return CURVES * (STEPS + 1);
+    return draw_strokes(box, BOXED_512, way, 1) * (STEPS + 1);
 }
 
-static size_t list_curves(const struct box *box, int set)
+static size_t draw_over(const struct box *box, int s)
 {
-    (void)set;
-    for (int k = 0; k < CURVES; k++)
-        total += box->list_curve(SIDE, curves[k], 12, STEPS, list, sizeof list);
-    return CURVES * (STEPS + 1);
+    return draw_strokes(box, s, OVER_MARKED, 1) * (strokes[s].steps + 1);
 }
 
-static size_t check_curves(const struct box *box, int set)
+static size_t draw_short(const struct box *box, int s)
 {
-    (void)set;
-    for (int k = 0; k < CURVES; k++)
-        total += box->check_curve(SIDE, curves[k], 12, STEPS);
-    return CURVES * (STEPS + 1);
+    return draw_strokes(box, s, OVER_MARKED, times_over);
+}
+
+static size_t list_curves(const struct box *box, int s)
+{
+    return list_strokes(box, s, 1) * (strokes[s].steps + 1);
+}
+
+static size_t list_short(const struct box *box, int s)
+{
+    return list_strokes(box, s, times_over);
 }
 
 /* Set 0 has 64 × 64 steps, set 1 256 × 256, and fewer patches are enough. */
@@ -229,8 +276,23 @@ static const struct row {
     {"draw it over, cells marked", "sample", "draw_curve", draw_curves, OVER_MARKED, 4},
     {"draw it under, cells unmarked", "sample", "draw_curve", draw_curves, UNDER_UNMARKED, 4},
     {"draw it under, cells marked", "sample", "draw_curve", draw_curves, UNDER_MARKED, 4},
-    {"list it", "sample", "list_curve", list_curves, 0, 4},
-    {"check it", "sample", "check_curve", check_curves, 0, 3},
+    {"list it", "sample", "list_curve", list_curves, BOXED_512, 4},
+    {"check it, quits", "call", "check_curve", check_curves, BOXED_512, 3},
+    {"check a curve, gaps up to 1, n = 1, walks", "call", "check_curve", check_curves, CLOSE_1, 3},
+    {"check it, n = 2, walks", "call", "check_curve", check_curves, CLOSE_2, 3},
+    {"check it, n = 3, quits", "call", "check_curve", check_curves, CLOSE_3, 3},
+    {"check it, n = 512, quits", "call", "check_curve", check_curves, CLOSE_512, 3},
+    {"draw it over, n = 1, walks", "call", "draw_curve", draw_short, CLOSE_1, 4},
+    {"draw it over, n = 2, walks", "call", "draw_curve", draw_short, CLOSE_2, 4},
+    {"draw it over, n = 3, quits", "call", "draw_curve", draw_short, CLOSE_3, 4},
+    {"list it, n = 1, walks", "call", "list_curve", list_short, CLOSE_1, 4},
+    {"check a curve, gaps up to 63, n = 188, walks", "call", "check_curve", check_curves, CROSSING_188, 3},
+    {"check it, n = 189, quits", "call", "check_curve", check_curves, CROSSING_189, 3},
+    {"draw it over, n = 188, walks", "sample", "draw_curve", draw_over, CROSSING_188, 4},
+    {"draw it over, n = 189, quits", "sample", "draw_curve", draw_over, CROSSING_189, 4},
+    {"list it, n = 188, walks", "sample", "list_curve", list_curves, CROSSING_188, 4},
+    {"list it, n = 189, quits", "sample", "list_curve", list_curves, CROSSING_189, 4},
+    {"check a curve, first step too long", "call", "check_curve", check_curves, STEEP_64, 3},
     {"draw a patch, 64 × 64, side 64, over, cells unmarked", "sample", "draw_patch", small_patches, OVER_UNMARKED, 4},
     {"draw it over, cells marked", "sample", "draw_patch", small_patches, OVER_MARKED, 4},
     {"draw it under, cells unmarked", "sample", "draw_patch", small_patches, UNDER_UNMARKED, 4},
@@ -281,7 +343,9 @@ static void make(size_t swatch_count)
 /* One round: all boxes one after the other, in an order drawn anew. */
 static void time_round(const struct row *row, double times[BOXES])
 {
-    int order[BOXES] = {0, 1, 2, 3};
+    int order[BOXES];
+    for (int k = 0; k < BOXES; k++)
+        order[k] = k;
     for (int k = 0; k < BOXES; k++) {
         int other = k + (int)random_below((uint32_t)(BOXES - k)), box = order[other];
         order[other] = order[k];
@@ -298,7 +362,10 @@ static void time_row(const struct row *row, const char *place, int rounds)
     time_round(row, times);
     while (rounds-- > 0) {
         time_round(row, times);
-        printf("%s %d %.4f %.4f %.4f %.4f\n", place, (int)(row - rows), times[0], times[1], times[2], times[3]);
+        printf("%s %d", place, (int)(row - rows));
+        for (int k = 0; k < BOXES; k++)
+            printf(" %.4f", times[k]);
+        printf("\n");
     }
 }
 
@@ -310,16 +377,30 @@ static const struct row *row_of(const char *number)
     return &rows[i];
 }
 
+/* A row is among the numbers, or there are none. */
+static bool is_chosen(int row, char **numbers)
+{
+    char **at = numbers;
+    while (*at && row_of(*at) != &rows[row])
+        at++;
+    return *at || !*numbers;
+}
+
+static void print_rows(char **numbers)
+{
+    for (int i = 0; i < ROWS; i++)
+        if (is_chosen(i, numbers))
+            printf("%d|%s|%s|%s\n", i, rows[i].name, rows[i].unit, rows[i].functions);
+}
+
 /* The order of a round must not depend on the place alone. */
 static void times(const char *place, int rounds, char **numbers)
 {
     make(1000000);
     seed((uint64_t)time(NULL));
-    if (!*numbers)
-        for (int i = 0; i < ROWS; i++)
+    for (int i = 0; i < ROWS; i++)
+        if (is_chosen(i, numbers))
             time_row(&rows[i], place, rounds);
-    for (; *numbers; numbers++)
-        time_row(row_of(*numbers), place, rounds);
 }
 
 static struct line {
@@ -331,9 +412,12 @@ static int read_lines(void)
 {
     int n = 0;
     struct line l;
-    double *t = l.times;
-    while (n < MOST && scanf("%d %d %lf %lf %lf %lf", &l.place, &l.row, &t[0], &t[1], &t[2], &t[3]) == 6)
+    while (n < MOST && scanf("%d %d", &l.place, &l.row) == 2) {
+        for (int k = 0; k < BOXES; k++)
+            if (scanf("%lf", &l.times[k]) != 1)
+                exit(2);
         lines[n++] = l;
+    }
     return n;
 }
 
@@ -358,7 +442,7 @@ static double median(int count, int row, int place, int box)
     return n == 0 ? 0 : values[n / 2];
 }
 
-/* The geometric mean of the places' medians; for (a) the least and the greatest too. */
+/* The geometric mean of the places' medians; for (a) and the other build the least and the greatest too. */
 static void print_ratio(int count, int row, int box)
 {
     double logs = 0, least = 1e9, most = 0;
@@ -373,14 +457,15 @@ static void print_ratio(int count, int row, int box)
         most = m > most ? m : most;
     }
     printf(" %.2f |", exp(logs / places));
-    if (box == 1)
+    if (box == 1 || box == OTHER_BUILD)
         printf(" %.2f to %.2f |", least, most);
 }
 
 static void table(void)
 {
     int count = read_lines();
-    printf("| call | library, ns | / (a) | by place | / (b) | / (c) |\n|---|---|---|---|---|---|\n");
+    printf("| call | library, ns | / (a) | by place | / (b) | / (c) |%s\n|---|---|---|---|---|---|%s\n",
+           BOXES > OTHER_BUILD ? " / before | by place |" : "", BOXES > OTHER_BUILD ? "---|---|" : "");
     for (int row = 0; row < ROWS; row++) {
         double own = median(count, row, -1, 0);
         if (own == 0)
@@ -388,15 +473,18 @@ static void table(void)
         printf("| %s | %.*f a %s |", rows[row].name, own < 1000 ? 2 : 0, own, rows[row].unit);
         for (int k = 1; k < rows[row].boxes; k++)
             print_ratio(count, row, k);
-        printf("%s\n", rows[row].boxes == 3 ? " none |" : "");
+        printf("%s", rows[row].boxes == 3 ? " none |" : "");
+        if (BOXES > OTHER_BUILD)
+            print_ratio(count, row, OTHER_BUILD);
+        printf("\n");
     }
 }
 
 static void print_marked(void)
 {
     for (int set = 0; set < 2; set++)
-        printf("A %s sheet marks %lu of %d cells.\n", set == 0 ? "sparse" : "dense",
-               (unsigned long)marked[set] / SHEETS, SHEET_CELLS);
+        printf("A %s sheet marks %lu of %d cells; for all of its strokes the step test quits.\n",
+               set == 0 ? "sparse" : "dense", (unsigned long)marked[set] / SHEETS, SHEET_CELLS);
 }
 
 static void check(void)
@@ -416,6 +504,7 @@ static void count(const struct row *row, int box)
     if (box < 0 || box >= BOXES)
         exit(2);
     make(10000);
+    times_over = 1;
     printf("%zu\n", row->run(&boxes[box], row->set));
 }
 
@@ -429,8 +518,7 @@ int main(int argc, char **argv)
     else if (strcmp(mode, "table") == 0)
         table();
     else if (strcmp(mode, "rows") == 0)
-        for (int i = 0; i < ROWS; i++)
-            printf("%d|%s|%s|%s\n", i, rows[i].name, rows[i].unit, rows[i].functions);
+        print_rows(argv + 2);
     else if (strcmp(mode, "count") == 0 && argc == 4)
         count(row_of(argv[2]), atoi(argv[3]));
     else

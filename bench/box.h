@@ -1,5 +1,5 @@
 /* The key box's interface, for the library and for the programs that it is compared with: the same functions under
-   four prefixes. */
+   five prefixes. */
 #ifndef BOX_H
 #define BOX_H
 
@@ -11,6 +11,9 @@ typedef int64_t answer;
 
 /* Choices of a drawing. */
 enum { OVER, UNDER };
+
+/* What a check of a curve answers, if it is accepted: after a walk along all steps, or without one. */
+enum { WALKED, QUIT };
 
 typedef answer check_curve_fn(uint32_t side, const uint8_t *points, size_t points_len, uint32_t steps);
 typedef answer list_curve_fn(uint32_t side, const uint8_t *points, size_t points_len, uint32_t steps, uint8_t *list,
@@ -69,5 +72,6 @@ DECLARE_BOX(gidzkhalu);
 DECLARE_BOX(same);
 DECLARE_BOX(direct);
 DECLARE_BOX(usual);
+DECLARE_BOX(before); /* another build of the library */
 
 #endif

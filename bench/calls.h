@@ -1,6 +1,6 @@
 /* The functions of a box, around its own. The file that includes this one defines CALL, the name of a function with its
    prefix, and before it:
-     curves    step_too_long, list_samples, mark_samples
+     curves    quits, step_too_long, list_samples, mark_samples
      patches   patch_step_too_long, mark_rows
                mark_samples and mark_rows go over or under and answer how many cells are new
      swatches  refusal_of_one and refusal_of_three, 0 or the number of channels; refusal_of_hue, of hue, saturation and
@@ -15,6 +15,14 @@
 
 /* Curves. */
 
+/* The step test: WALKED, QUIT or -15. */
+static inline answer test_steps(const uint8_t *points, uint32_t steps)
+{
+    if (quits(points, steps))
+        return QUIT;
+    return step_too_long(points, steps) ? -15 : WALKED;
+}
+
 answer CALL(check_curve)(uint32_t side, const uint8_t *points, size_t points_len, uint32_t steps)
 {
     if (points_len != 12)
@@ -22,7 +30,7 @@ answer CALL(check_curve)(uint32_t side, const uint8_t *points, size_t points_len
     int refusal = order_of_list(side, points, 12, is_count_out(512, steps), false);
     if (refusal != 0)
         return -refusal;
-    return step_too_long(points, steps) ? -15 : 0;
+    return test_steps(points, steps);
 }
 
 answer CALL(list_curve)(uint32_t side, const uint8_t *points, size_t points_len, uint32_t steps, uint8_t *list,
@@ -34,7 +42,7 @@ answer CALL(list_curve)(uint32_t side, const uint8_t *points, size_t points_len,
         order_of_list(side, points, 12, is_count_out(512, steps), is_curve_list_short(steps, list_len));
     if (refusal != 0)
         return -refusal;
-    if (step_too_long(points, steps))
+    if (test_steps(points, steps) < 0)
         return -15;
     list_samples(points, steps, list);
     return (answer)steps + 1;
@@ -50,7 +58,7 @@ answer CALL(draw_curve)(uint32_t side, const uint8_t *points, size_t points_len,
     int refusal = order_of_drawing(side, points, 12, grid_len, mark, is_count_out(512, steps));
     if (refusal != 0)
         return -refusal;
-    if (step_too_long(points, steps))
+    if (test_steps(points, steps) < 0)
         return -15;
     if (choice == UNDER)
         *new_cells = mark_samples(side, points, steps, mark, true, grid);

@@ -1,11 +1,12 @@
 /* (b) Direct exact evaluation: every sample from its Bernstein weights, in whole numbers. The largest number, a
-   patch's doubled value, is 2 × 63 × 256³ × 256³ < 2^55, so int64_t holds them all. */
+   patch's doubled value, is 2 × 63 × 256³ × 256³ < 2^55, so int64_t holds them all. The step test quits as (a)'s. */
 #include <math.h>
 #include <stdbool.h>
 #include <stdint.h>
 #include <stdlib.h>
 
 #include "cell.h"
+#include "gaps.h"
 #include "totals.h"
 
 /* n³ times the value at i / n. */

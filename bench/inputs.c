@@ -5,10 +5,25 @@
 #include <stdlib.h>
 #include <string.h>
 
-uint8_t curves[CURVES][12], patches[2][PATCHES][48], sheets[2][SHEETS][SHEET_BYTES];
+#include "box.h"
+#include "gaps.h"
+
+uint8_t curves[CURVE_SETS][CURVES][12], patches[2][PATCHES][48], sheets[2][SHEETS][SHEET_BYTES];
 uint8_t full_cubes[CUBES][CELLS];
 float (*channels[3])[6];
 size_t swatches;
+
+/* Three times a gap of 1 is 3, of 63 189. */
+const struct strokes strokes[STROKES] = {
+    [BOXED_512] = {BOXED, STEPS, QUIT},
+    [CLOSE_1] = {CLOSE, 1, WALKED},
+    [CLOSE_2] = {CLOSE, 2, WALKED},
+    [CLOSE_3] = {CLOSE, 3, QUIT},
+    [CLOSE_512] = {CLOSE, STEPS, QUIT},
+    [CROSSING_188] = {CROSSING, 188, WALKED},
+    [CROSSING_189] = {CROSSING, 189, QUIT},
+    [STEEP_64] = {STEEP, 64, -15},
+};
 
 static uint64_t state;
 
@@ -37,6 +52,23 @@ void random_points(uint8_t *points, int count, uint32_t side, uint32_t width)
         uint32_t low = random_below(side - width + 1);
         for (int i = 0; i < count; i++)
             points[3 * i + a] = (uint8_t)(low + random_below(width));
+    }
+}
+
+static void close_points(uint8_t points[12])
+{
+    do
+        random_points(points, 4, SIDE, 2);
+    while (largest_gap(points) == 0);
+}
+
+/* Points k and k + 1 at opposite ends of each axis, the others anywhere. */
+static void crossing_points(uint8_t points[12], int k)
+{
+    random_points(points, 4, SIDE, SIDE);
+    for (int a = 0; a < 3; a++) {
+        points[3 * k + a] = random_below(2) == 0 ? 0 : SIDE - 1;
+        points[3 * k + 3 + a] = (uint8_t)(SIDE - 1 - points[3 * k + a]);
     }
 }
 
@@ -114,7 +146,7 @@ void make_inputs(size_t swatch_count)
     swatches = swatch_count;
     seed(2024);
     for (int k = 0; k < CURVES; k++)
-        random_points(curves[k], 4, SIDE, 8 + random_below(SIDE - 7));
+        random_points(curves[BOXED][k], 4, SIDE, 8 + random_below(SIDE - 7));
     for (int k = 0; k < PATCHES; k++) {
         random_patch(patches[0][k], 64 / 3);
         random_patch(patches[1][k], 60);
@@ -128,4 +160,9 @@ void make_inputs(size_t swatch_count)
     for (int k = 0; k < CUBES; k++)
         for (int i = 0; i < CELLS; i++)
             full_cubes[k][i] = (uint8_t)random_bits();
+    for (int k = 0; k < CURVES; k++) {
+        close_points(curves[CLOSE][k]);
+        crossing_points(curves[CROSSING][k], 1);
+        crossing_points(curves[STEEP][k], 0);
+    }
 }

@@ -19,8 +19,25 @@ enum {
     CUBES = 4
 };
 
-/* Accepted curves, side 64, 512 steps. */
-extern uint8_t curves[CURVES][12];
+/* Sets of curves, side 64. */
+enum {
+    BOXED,    /* in boxes 8 to 64 wide */
+    CLOSE,    /* the largest gap between consecutive points is 1 */
+    CROSSING, /* points 1 and 2 at opposite ends of each axis, a gap of 63 */
+    STEEP,    /* points 0 and 1 so */
+    CURVE_SETS
+};
+
+extern uint8_t curves[CURVE_SETS][CURVES][12];
+
+/* A set with a step count, and what a check of each of its curves answers. */
+enum { BOXED_512, CLOSE_1, CLOSE_2, CLOSE_3, CLOSE_512, CROSSING_188, CROSSING_189, STEEP_64, STROKES };
+
+extern const struct strokes {
+    int set;
+    uint32_t steps;
+    int check;
+} strokes[STROKES];
 
 /* Accepted patches, side 64: set 0 with 64 × 64 steps, set 1 with 256 × 256. */
 extern uint8_t patches[2][PATCHES][48];
@@ -32,7 +49,8 @@ enum { BRIGHT, DARK, HUES };
 extern float (*channels[3])[6];
 extern size_t swatches;
 
-/* Accepted sheets of 200 curve lines, side 40: set 0 short strokes, set 1 long ones. */
+/* Accepted sheets of 200 curve lines, side 40: set 0 short strokes, set 1 long ones. For each stroke the step test
+   quits. */
 extern uint8_t sheets[2][SHEETS][SHEET_BYTES];
 
 /* Cubes of side 64 that hold any bytes. */

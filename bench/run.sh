@@ -4,15 +4,23 @@
 #     bash bench/run.sh            checks, cells that (c) gets wrong, table of times
 #     bash bench/run.sh --count    instructions of library and (a), by callgrind
 #
-# CC and CFLAGS choose the C compiler, LIB another archive than the one that is built here.
+# CC and CFLAGS choose the C compiler, LIB another archive than the one that is built here. BEFORE is an archive of
+# another build with the same interface, which is measured beside it. ROWS are numbers of rows, for these alone.
 set -eu
 cd "$(dirname "$0")/.."
 cc=${CC:-gcc}
 flags=${CFLAGS:--O3}
 lib=${LIB:-target/staticlib/libexports.a}
+rows=${ROWS:-}
 out=target/bench
 places='0 1 2 3'
 mkdir -p $out
+
+# The functions of BEFORE, which are all its global names, under a prefix of their own.
+rename() {
+    nm -g --defined-only "$BEFORE" | sed -n 's/.* gidzkhalu_\(.*\)/gidzkhalu_\1 before_\1/p' >$out/names
+    objcopy --redefine-syms=$out/names "$BEFORE" $out/before.a
+}
 
 build() {
     if [ -z "${LIB:-}" ]; then rt staticlib exports >$out/staticlib.log 2>&1 || { tail -n 5 $out/staticlib.log; exit 1; }; fi
@@ -20,13 +28,14 @@ build() {
     $cc -std=c99 -fsyntax-only -include include/gidzkhalu.h -x c bench/box.h
     for name in same direct usual inputs agree bench; do
         # shellcheck disable=SC2086
-        $cc -std=c99 -Wall -Wextra $flags -c bench/$name.c -o $out/$name.o
+        $cc -std=c99 -Wall -Wextra $flags ${BEFORE:+-DBEFORE} -c bench/$name.c -o $out/$name.o
     done
+    if [ -n "${BEFORE:-}" ]; then rename; fi
     # The same code at four places, 16 bytes apart: where a loop lies in a line of the cache counts for some per cent.
     for p in $places; do
         printf '.text\n.skip %d, 0x90\n.section .note.GNU-stack,"",@progbits\n' $((16 * p + 16)) >$out/pad.s
         $cc -c $out/pad.s -o $out/pad.o
-        $cc -o $out/bench.$p $out/pad.o $out/{bench,agree,inputs,same,direct,usual}.o "$lib" -lm
+        $cc -o $out/bench.$p $out/pad.o $out/{bench,agree,inputs,same,direct,usual}.o ${BEFORE:+$out/before.a} "$lib" -lm
     done
 }
 
@@ -41,7 +50,8 @@ measure() {
     $out/bench.0 check
     : >$out/times
     for _ in 1 2 3; do
-        for p in $places; do $out/bench.$p times "$p" 7 >>$out/times; done
+        # shellcheck disable=SC2086
+        for p in $places; do $out/bench.$p times "$p" 7 $rows >>$out/times; done
     done
     echo
     $out/bench.0 table <$out/times
@@ -57,14 +67,21 @@ collected() { # PREFIX BOX ROW FUNCTIONS
 }
 
 count() {
-    echo '| instructions | library | (a) | ratio |'
-    echo '|---|---|---|---|'
-    $out/bench.0 rows | while IFS='|' read -r row name unit functions; do
+    echo "| instructions | library | (a) | ratio |${BEFORE:+ before | ratio |}"
+    echo "|---|---|---|---|${BEFORE:+---|---|}"
+    # shellcheck disable=SC2086
+    $out/bench.0 rows $rows | while IFS='|' read -r row name unit functions; do
         own=$(collected gidzkhalu 0 "$row" "$functions")
         same=$(collected same 1 "$row" "$functions")
-        awk -v name="$name" -v unit="$unit" -v own="$own" -v same="$same" -v units="$(cat $out/units)" 'BEGIN {
-            form = own / units < 1000 ? "| %s | %.1f a %s | %.1f | %.2f |\n" : "| %s | %.0f a %s | %.0f | %.2f |\n"
-            printf form, name, own / units, unit, same / units, own / same }'
+        before=
+        if [ -n "${BEFORE:-}" ]; then before=$(collected before 4 "$row" "$functions"); fi
+        awk -v name="$name" -v unit="$unit" -v own="$own" -v others="$same $before" -v units="$(cat $out/units)" 'BEGIN {
+            form = own / units < 1000 ? "%.1f" : "%.0f"
+            printf "| %s | " form " a %s |", name, own / units, unit
+            n = split(others, other, " ")
+            for (k = 1; k <= n; k++)
+                printf " " form " | %.2f |", other[k] / units, own / other[k]
+            printf "\n" }'
     done
 }
 

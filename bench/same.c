@@ -1,5 +1,6 @@
 /* (a) The library's algorithm in C: integer forward differences of twice the value, a remainder above -N and up to N for
-   each axis, the step test on differences before the first write, the same refusals in the same order. */
+   each axis, the step test on differences before the first write, which quits where the gaps are small, the same
+   refusals in the same order. */
 #include <math.h>
 #include <stdbool.h>
 #include <stddef.h>
@@ -7,6 +8,7 @@
 #include <string.h>
 
 #include "cell.h"
+#include "gaps.h"
 #include "totals.h"
 
 #if defined(__GNUC__)

@@ -99,7 +99,7 @@ static int judge_curve(uint32_t side, uint32_t line, const uint8_t *rest, size_t
     int refusal = order_of_list(side, curve.points, 12, is_count_out(512, curve.steps), false);
     if (refusal != 0)
         return refusal;
-    return step_too_long(curve.points, curve.steps) ? 15 : 0;
+    return test_steps(curve.points, curve.steps) < 0 ? 15 : 0;
 }
 
 /* The first refusal of a sheet, with its line; 0 if none applies, with the line past the last. */

@@ -51,6 +51,12 @@ static void list_samples(const uint8_t *points, uint32_t n, uint8_t *list)
     }
 }
 
+static inline bool quits(const uint8_t *points, uint32_t n)
+{
+    (void)points, (void)n;
+    return false;
+}
+
 static inline bool step_too_long(const uint8_t *points, uint32_t n)
 {
     (void)points, (void)n;
