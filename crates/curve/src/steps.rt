@@ -10,6 +10,7 @@ use crate::Curve;
 use cubic::differences::Cubic;
 
 // What the test tells: no step is too long, after a walk along all steps or without one, or a walk found a step that is.
+// In the order of `CheckAnswer`, so that a compiled check hands it on as it is.
 pub(crate) enum StepTest {
     Walked,
     Quit,
