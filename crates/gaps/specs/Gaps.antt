@@ -24,6 +24,14 @@ module _ (points : List ℕ) where
   unfoldable pub largestGap : ℕ
   largestGap = max (gapAlong x-axis) (max (gapAlong y-axis) (gapAlong z-axis))
 
+  -- The distance from the first point to the last on an axis, and the largest such distance. No count below it can be
+  -- accepted (document 02, A.6).
+  unfoldable pub endsAlong : Axis → ℕ
+  endsAlong a = gap (coordinate points a 0) (coordinate points a 3)
+
+  unfoldable pub endsApart : ℕ
+  endsApart = max (endsAlong x-axis) (max (endsAlong y-axis) (endsAlong z-axis))
+
   -- The test of a curve with n steps quits: it accepts without walking.
   unfoldable pub quits : (n : ℕ) → Bool
   quits n = leb (3 * largestGap) n

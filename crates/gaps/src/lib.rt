@@ -1,10 +1,10 @@
 // Gaps between consecutive points of a curve, and where the step test quits.
 ghost use mathlib.Core.Path.{_≡_};
-ghost use Prim.Native.Nat.{_<_, max};
+ghost use Prim.Native.Nat.{_*_, _<_, max};
 ghost use lib.ListN.{length};
 ghost use Rattle.cube.specs.Cube.{Axis};
 ghost use Rattle.drawing.specs.Object.{offset};
-ghost use Rattle.gaps.specs.Gaps.{gap, gapAlong, largestGap, quits};
+ghost use Rattle.gaps.specs.Gaps.{gap, gapAlong, largestGap, endsAlong, endsApart, quits};
 
 // The gap between two coordinates.
 fn between(g: u8, h: u8) -> u8
@@ -33,11 +33,31 @@ fn along(points: &[u8], a: usize) -> u8
 }
 
 // The largest gap on every axis.
-pub fn largest_gap(points: &[u8]) -> u8
+fn largest_gap(points: &[u8]) -> u8
     requires { ⌜ length (now points) ≡ 12 ⌝ }
     ensures { λ r. ⌜ r ≡ largestGap (now (points .entry)) ⌝ }
 {
     larger(along(points, 0), larger(along(points, 1), along(points, 2)))
+}
+
+// The distance from the first point to the last on one axis, by its number.
+fn ends_along(points: &[u8], a: usize) -> u8
+    requires { ⌜ length (now points) ≡ 12 ⌝ }
+    requires { ⌜ a < 3 ⌝ }
+    ensures { λ r. ⌜ ((x : Axis) → offset x ≡ a → r ≡ endsAlong (now (points .entry)) x) ⌝ }
+{
+    between(points[a], points[9 + a])
+}
+
+// The largest such distance.
+pub fn ends_apart(points: &[u8]) -> u32
+    requires { ⌜ length (now points) ≡ 12 ⌝ }
+    ensures { λ r. ⌜ r ≡ endsApart (now (points .entry)) ⌝ }
+{
+    wide(larger(
+        ends_along(points, 0),
+        larger(ends_along(points, 1), ends_along(points, 2)),
+    ))
 }
 
 fn wide(g: u8) -> u32
@@ -46,10 +66,18 @@ fn wide(g: u8) -> u32
     g as u32
 }
 
+// Three times the largest gap.
+pub fn three_gaps(points: &[u8]) -> u32
+    requires { ⌜ length (now points) ≡ 12 ⌝ }
+    ensures { λ r. ⌜ r ≡ 3 * largestGap (now (points .entry)) ⌝ }
+{
+    3 * wide(largest_gap(points))
+}
+
 // The step test of a curve with n steps quits.
 pub fn does_quit(points: &[u8], n: u32) -> bool
     requires { ⌜ length (now points) ≡ 12 ⌝ }
     ensures { λ r. ⌜ r ≡ quits (now (points .entry)) n ⌝ }
 {
-    3 * wide(largest_gap(points)) <= n
+    three_gaps(points) <= n
 }

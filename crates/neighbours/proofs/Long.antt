@@ -1,4 +1,5 @@
 -- The long-step test in words: it is true exactly where some two neighbouring samples lie more than one cell apart.
+use mathlib.Core.Path.{_≡_}
 use mathlib.Core.Logic.{_↔_, _⊎_, inl, inr, ⊎-elim}
 use mathlib.Core.Bool.{Bool}
 use mathlib.Core.List.{List, [], _∷_}
@@ -8,7 +9,7 @@ use native.Mathlib.Omega.{arith}
 use lib.Dec.{T, ltb}
 use Rattle.bezier.specs.Exact.{Sample, no-index, index}
 use Rattle.decide.specs.Some.{someBelow}
-use Rattle.decide.proofs.Truth.{either, less}
+use Rattle.decide.proofs.Truth.{either, less, same-test}
 use Rattle.decide.proofs.Some.{some-below}
 use Rattle.rounding.specs.Nearest.{AtMostOneApart}
 use Rattle.neighbours.specs.Steps.{farApart, someSample, tooLong, Neighbours, first, later, LongStep}
@@ -20,6 +21,13 @@ far-apart s v w = (
   λ t. ⊎-elim (λ a. inl (less _ _ .0 a)) (λ b. inr (less _ _ .0 b)) (either (ltb (v + s) w) (ltb (w + s) v) .0 t),
   λ h. either (ltb (v + s) w) (ltb (w + s) v) .1 (⊎-elim (λ a. inl (less _ _ .1 a)) (λ b. inr (less _ _ .1 b)) h),
 )
+
+-- Whichever of the two comes first.
+pub far-either-way : (s v w : ℕ) → farApart s v w ≡ farApart s w v
+far-either-way s v w = same-test (farApart s v w) (farApart s w v) (exchange v w) (exchange w v)
+  where
+    exchange : (v w : ℕ) → T (farApart s v w) → T (farApart s w v)
+    exchange v w t = far-apart s w v .1 (⊎-elim (λ l. inr l) (λ l. inl l) (far-apart s v w .0 t))
 
 -- Otherwise they are at most one cell apart.
 pub not-far-apart : (s v w : ℕ) → ¬ T (farApart s v w) → AtMostOneApart s v w
