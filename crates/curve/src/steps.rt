@@ -1,11 +1,11 @@
 // The test of one curve: its steps.
 ghost use mathlib.Core.Path.{_≡_};
-ghost use Prim.Native.Nat.{_<_};
+ghost use Prim.Native.Nat.{_≤_, _<_};
 ghost use Rattle.drawing.specs.Refusals.{stepsTooLong};
 ghost use Rattle.gaps.specs.Gaps.{quits};
 ghost use Rattle.cubic.specs.Differences.{differencesAt};
 ghost use Rattle.curve.specs.Curve.{curveOf, tellsLong, tellsQuit};
-ghost use Rattle.curve.specs.Machine.{InLimits, doubledAlong};
+ghost use Rattle.curve.specs.Machine.{InLimits, doubledAlong, longBetween};
 use crate::Curve;
 use cubic::differences::Cubic;
 
@@ -42,16 +42,25 @@ pub(crate) fn cubic_along(curve: Curve, a: usize) -> Cubic
     scan::number::start_column(&p, curve.steps, 3, a)
 }
 
-// Some two neighbouring samples lie more than one cell apart on some axis. The search is left at the first such step,
-// and forms no difference past the last.
+// Some two neighbouring samples lie more than one cell apart on some axis.
 fn step_too_long(curve: Curve) -> bool
     requires { ⌜ InLimits curve ⌝ }
     ensures { λ r. ⌜ r ≡ stepsTooLong (curveOf curve) ⌝ }
 {
+    long_between(curve, 0, 3)
+}
+
+// The same on an axis from one number up to another, that one not included. The search is left at the first such step, and
+// forms no difference past the last.
+pub fn long_between(curve: Curve, from: usize, to: usize) -> bool
+    requires { ⌜ InLimits curve ⌝ }
+    requires { ⌜ (from ≤ to) × (to ≤ 3) ⌝ }
+    ensures { λ r. ⌜ r ≡ longBetween curve from to ⌝ }
+{
     let scale = scan::number::cubed(curve.steps);
     let last = curve.steps - 1;
     let mut found = false;
-    'search: for a in 0..3 {
+    'search: for a in from..to {
         let mut c = cubic_along(curve, a);
         let mut i = 0;
         loop {

@@ -3,7 +3,7 @@ ghost use mathlib.Core.Path.{_≡_};
 ghost use Prim.Native.Nat.{_*_, _≤_};
 ghost use lib.IntN.{pos};
 ghost use Rattle.cubic.specs.Differences.{differencesAt};
-ghost use Rattle.scan.specs.Column.{InColumn, doubledColumn};
+ghost use Rattle.scan.specs.Column.{InColumn, doubledColumn, AtBytes, doubledThrough};
 ghost use Rattle.scan.specs.Walker.{gridStrides};
 use crate::walker::Strides;
 use cubic::differences::Cubic;
@@ -29,19 +29,27 @@ pub fn count(n: u32) -> i64
     n as i64
 }
 
-// Sample 0 of the cubic along the first parameter through four coordinates of the points, the first at byte at and each
-// next one apart bytes on: its doubled value and differences.
+// Sample 0 of the cubic along the first parameter through the coordinates at four bytes of the points: its doubled value and
+// differences.
+pub fn start_through(points: &[u8], n: u32, b0: usize, b1: usize, b2: usize, b3: usize) -> Cubic
+    requires { ⌜ AtBytes (now points) n b0 b1 b2 b3 ⌝ }
+    ensures { λ r. ⌜ r ≡ differencesAt (doubledThrough (now (points .entry)) n b0 b1 b2 b3) 0 ⌝ }
+{
+    cubic::differences::start(
+        count(n),
+        doubled(points[b0]),
+        doubled(points[b1]),
+        doubled(points[b2]),
+        doubled(points[b3]),
+    )
+}
+
+// The same where the first coordinate is at byte at and each next one apart bytes on.
 pub fn start_column(points: &[u8], n: u32, apart: usize, at: usize) -> Cubic
     requires { ⌜ InColumn (now points) n apart at ⌝ }
     ensures { λ r. ⌜ r ≡ differencesAt (doubledColumn (now (points .entry)) n apart at) 0 ⌝ }
 {
-    cubic::differences::start(
-        count(n),
-        doubled(points[at]),
-        doubled(points[apart + at]),
-        doubled(points[2 * apart + at]),
-        doubled(points[3 * apart + at]),
-    )
+    start_through(points, n, at, apart + at, 2 * apart + at, 3 * apart + at)
 }
 
 // What a step count gives to the scale: n × n × n.

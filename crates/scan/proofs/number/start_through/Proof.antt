@@ -1,18 +1,18 @@
--- `start_column` meets its contract: what `start` is given are the count and twice the coordinates, which leave room.
+-- `start_through` meets its contract: what `start` is given are the count and twice the coordinates, which leave room.
 use borrow.Author.Needs.{needs}
 use denote.Ref.{now}
 use mathlib.Core.Path.{_≡_}
 use mathlib.Core.List.{List}
-use Prim.Native.Nat.{ℕ, _+_, _*_, _<_}
+use Prim.Native.Nat.{ℕ, _*_, _<_}
 use native.Mathlib.Omega.{arith}
 use lib.IntN.{ℤ, pos}
 use lib.ListN.{length, getD}
 use Rattle.cubic.proofs.Fits.{read}
 use Rattle.scan.specs.Column.{Below64}
 use Rattle.scan.proofs.Natural.{answer-read}
-use Rattle.scan.proofs.Column.{column-start}
-use Rattle.scan.proofs.number.start_column.Statement.{statement}
-use Rattle.scan.proofs.number.start_column.Tie as tie
+use Rattle.scan.proofs.Column.{bytes-start}
+use Rattle.scan.proofs.number.start_through.Statement.{statement}
+use Rattle.scan.proofs.number.start_through.Tie as tie
 
 count-requires : tie.Need-count-requires
 count-requires c κs = search needs
@@ -23,32 +23,17 @@ shared-slice-read-doubled c = search needs
 doubled-requires : tie.Need-doubled-requires
 doubled-requires c κs = search needs
 
-add-doubled : tie.Need-add-doubled
-add-doubled c = search needs
-
 shared-slice-read-doubled-2 : tie.Need-shared-slice-read-doubled-2
 shared-slice-read-doubled-2 c = search needs
 
 doubled-requires-2 : tie.Need-doubled-requires-2
 doubled-requires-2 c κs = search needs
 
-mul-doubled : tie.Need-mul-doubled
-mul-doubled c = search needs
-
-add-doubled-2 : tie.Need-add-doubled-2
-add-doubled-2 c = search needs
-
 shared-slice-read-doubled-3 : tie.Need-shared-slice-read-doubled-3
 shared-slice-read-doubled-3 c = search needs
 
 doubled-requires-3 : tie.Need-doubled-requires-3
 doubled-requires-3 c κs = search needs
-
-mul-doubled-2 : tie.Need-mul-doubled-2
-mul-doubled-2 c = search needs
-
-add-doubled-3 : tie.Need-add-doubled-3
-add-doubled-3 c = search needs
 
 shared-slice-read-doubled-4 : tie.Need-shared-slice-read-doubled-4
 shared-slice-read-doubled-4 c = search needs
@@ -62,18 +47,18 @@ twice-read : (points : List ℕ) (b : ℕ) {r : ℤ} → Below64 points → r �
 twice-read points b below e h = answer-read e (omega (arith, below b h))
 
 -- What `start` is given.
-record Given (points : List ℕ) (n apart at : ℕ) (count q0 q1 q2 q3 : ℤ) : Type 0 where
+record Given (points : List ℕ) (n b0 b1 b2 b3 : ℕ) (count q0 q1 q2 q3 : ℤ) : Type 0 where
   pub steps : read count ≡ pos n
-  pub point0 : read q0 ≡ pos (2 * getD points at 0)
-  pub point1 : read q1 ≡ pos (2 * getD points (apart + at) 0)
-  pub point2 : read q2 ≡ pos (2 * getD points (2 * apart + at) 0)
-  pub point3 : read q3 ≡ pos (2 * getD points (3 * apart + at) 0)
+  pub point0 : read q0 ≡ pos (2 * getD points b0 0)
+  pub point1 : read q1 ≡ pos (2 * getD points b1 0)
+  pub point2 : read q2 ≡ pos (2 * getD points b2 0)
+  pub point3 : read q3 ≡ pos (2 * getD points b3 0)
 
 module _ (c : tie.After-doubled4) where
   abbrev s : tie.Start
   s = c .before .before .before .before .before .before .before .before .before .before
 
-  given : Given (now (s .args .points)) (s .args .n) (s .args .apart) (s .args .at)
+  given : Given (now (s .args .points)) (s .args .n) (s .args .b0) (s .args .b1) (s .args .b2) (s .args .b3)
       (c .before .before .before .before .before .before .before .before .count .result)
       (c .before .before .before .before .before .before .doubled .result)
       (c .before .before .before .before .doubled2 .result)
@@ -88,44 +73,36 @@ module _ (c : tie.After-doubled4) where
             answer-read (c .before .before .before .before .before .before .before .before .count .ensures)
             (omega (arith, l .count));
         point0 =
-            twice-read points (s .args .at) (l .coordinates)
-            (c .before .before .before .before .before .before .doubled .ensures) (omega arith);
+            twice-read points (s .args .b0) (l .coordinates)
+            (c .before .before .before .before .before .before .doubled .ensures) (there .0);
         point1 =
-            twice-read points (s .args .apart + s .args .at) (l .coordinates)
-            (c .before .before .before .before .doubled2 .ensures) (omega arith);
-        point2 =
-            twice-read points (2 * s .args .apart + s .args .at) (l .coordinates)
-            (c .before .before .doubled3 .ensures) (omega arith);
-        point3 =
-            twice-read points (3 * s .args .apart + s .args .at) (l .coordinates) (c .doubled4 .ensures) (omega arith);
+            twice-read points (s .args .b1) (l .coordinates)
+            (c .before .before .before .before .doubled2 .ensures) (there .1);
+        point2 = twice-read points (s .args .b2) (l .coordinates) (c .before .before .doubled3 .ensures) (there .2);
+        point3 = twice-read points (s .args .b3) (l .coordinates) (c .doubled4 .ensures) (there .3);
       }
 
 start-requires : tie.Need-start-requires
 start-requires c κs =
     let g = given c in
-    rw (g .steps, g .point0, g .point1, g .point2, g .point3) (column-start (s c .pre))
+    rw (g .steps, g .point0, g .point1, g .point2, g .point3) (bytes-start (s c .pre))
 
 returns : tie.Need-returns
 returns c =
     let g = given (c .before) in
     rw (g .steps, g .point0, g .point1, g .point2, g .point3) at (c .start .ensures)
 
-pub start-column-spec : {M : Type 1} → statement M
-start-column-spec =
+pub start-through-spec : {M : Type 1} → statement M
+start-through-spec =
     tie.close
     (tie.spec
     count-requires
     shared-slice-read-doubled
     doubled-requires
-    add-doubled
     shared-slice-read-doubled-2
     doubled-requires-2
-    mul-doubled
-    add-doubled-2
     shared-slice-read-doubled-3
     doubled-requires-3
-    mul-doubled-2
-    add-doubled-3
     shared-slice-read-doubled-4
     doubled-requires-4
     start-requires
