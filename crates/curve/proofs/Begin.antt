@@ -14,7 +14,7 @@ use Rattle.cube.specs.Cube.{Axis, x-axis, y-axis, z-axis, volume}
 use Rattle.drawing.specs.declared.Choice.{Choice}
 use Rattle.drawing.specs.Object.{offset, coordinate, scaleOf, exact}
 use Rattle.drawing.specs.Refusals.{Drawable, drawVerdict, listVerdict, sampleCount}
-use Rattle.drawing.specs.Drawing.{marked, bytes, cells, drawn, listed}
+use Rattle.drawing.specs.Drawing.{marked, bytes, cells, drawnBy, drawn, listed}
 use Rattle.drawing.proofs.Samples.{one-row}
 use Rattle.drawing.proofs.Cells.{corner-cell}
 use Rattle.drawing.proofs.Listed.{listed-accepted}
@@ -83,7 +83,7 @@ module _ {S : ℕ} (c : Curve) (twelve : length (c .points) ≡ 12) (d : Drawabl
       drawn S (curveOf c) grid ≡
       marked (c .choice) (c .mark)
       (map placeOf (walkers (c .steps) (pos (scaleOf (curveOf c))) (gridStrides S) (startWalker c (gridStrides S)))) grid
-  unfolding drawn cells
+  unfolding drawnBy cells
   drawn-row grid e =
       rw (e, one-row (c .steps), map-map)
       (ap (λ ps. marked (c .choice) (c .mark) ps grid) (sym (row-places grid-row (start-at c d (gridStrides S)))))

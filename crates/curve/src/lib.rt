@@ -2,13 +2,14 @@
 // `draw_curve`. Whatever else is `pub` is so for the crates above.
 
 pub mod samples;
-mod steps;
+pub mod steps;
 
 ghost use mathlib.Core.Path.{_≡_};
 ghost use mathlib.Core.Bool.{false};
 ghost use Rattle.decide.specs.Refusal.{firstThat, outcome};
 ghost use Rattle.decide.specs.Verdict.{verdictOf};
 ghost use Rattle.drawing.specs.Refusals.{countOut, checkVerdict};
+ghost use Rattle.drawing.specs.Drawing.{drawingOf};
 ghost use Rattle.gaps.specs.Gaps.{quits};
 ghost use Rattle.scan.specs.Refusals.{beforeSteps};
 ghost use Rattle.scan.specs.Answer.{Draws, Lists};
@@ -71,7 +72,7 @@ pub fn list_curve(side: u32, curve: Curve, list: &mut [u8]) -> ListAnswer
 
 // Writes the mark, over or under, in each sample's cell of the grid. Refused: 11, 21, 12, 13, 14, 15.
 pub fn draw_curve(side: u32, curve: Curve, grid: &mut [u8]) -> DrawAnswer
-    ensures { λ r. ⌜ Draws side (curveOf curve) (now (grid .entry)) (now (grid .exit)) r ⌝ }
+    ensures { λ r. ⌜ Draws (drawingOf side (curveOf curve)) (now (grid .entry)) (now (grid .exit)) r ⌝ }
 {
     let cube = scan::refusal::is_volume(side, grid.len());
     match before_test(side, curve, !cube, curve.mark == 0, false) {

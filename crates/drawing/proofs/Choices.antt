@@ -9,7 +9,7 @@ use Rattle.cube.specs.Cube.{place}
 use Rattle.drawing.specs.declared.Choice.{Choice}
 use Rattle.drawing.specs.Object.{Object, exact, cellOf, going}
 use Rattle.drawing.specs.Refusals.{stepsTooLong, order, drawVerdict, listVerdict, checkVerdict}
-use Rattle.drawing.specs.Drawing.{marked, cells, drawn, listed}
+use Rattle.drawing.specs.Drawing.{marked, cells, drawnBy, drawn, listed}
 use Rattle.drawing.specs.NewCells.{unmarkedCells, newCells}
 use Rattle.drawing.proofs.Accepted.{draw-accepted}
 use Rattle.drawing.proofs.NewCells.{unmarked-either-way}
@@ -34,7 +34,7 @@ module _ (c : Choice) (S : ℕ) (o : Object) where
   -- The grid after a drawing with the choice.
   drawn-going : (grid : List ℕ) →
       drawn S (going c o) grid ≡ leaves (drawVerdict S (length grid) o) (marked c (o .mark) (map (place S) (cells o)) grid) grid
-  unfolding drawn drawVerdict order stepsTooLong cells cellOf exact
+  unfolding drawnBy drawVerdict order stepsTooLong cells cellOf exact
   drawn-going grid = refl
 
 -- Over and under turn as many cells from unmarked to marked.

@@ -1,4 +1,4 @@
--- One drawing in words: a refused one leaves the grid; an accepted one leaves its length, comes to every sample's cell, in
+-- One drawing, of whatever kind, in words: a refused one leaves the grid; an accepted one leaves its length, comes to every sample's cell, in
 -- whatever order, and leaves every other byte.
 use mathlib.Core.Path.{_≡_, refl, sym, _∙_, ap}
 use mathlib.Core.Logic.{_↔_, _⊎_, inl, inr, ⊎-elim}
@@ -8,14 +8,13 @@ use lib.ListN.{length, getD}
 use Rattle.bezier.specs.Exact.{Sample}
 use Rattle.decide.specs.Refusal.{accepted, refused}
 use Rattle.decide.proofs.Refusal.{by-verdict}
-use Rattle.cube.specs.Cube.{place}
+use Rattle.cube.specs.Cube.{place, volume}
 use Rattle.drawing.specs.Object.{Object, cellOf}
-use Rattle.drawing.specs.Refusals.{drawVerdict}
-use Rattle.drawing.specs.Drawing.{samples, written, marked, cells, drawn}
+use Rattle.drawing.specs.Refusals.{Drawable}
+use Rattle.drawing.specs.Drawing.{samples, written, marked, cells, Drawing, drawnBy}
 use Rattle.cube.proofs.Places.{place-below}
 use Rattle.drawing.proofs.Samples.{sample-listed, listed-sample}
 use Rattle.drawing.proofs.Marked.{held-or-mark, length-marked, marked-holds, marked-there, marked-same}
-use Rattle.drawing.proofs.Accepted.{draw-accepted}
 use Rattle.drawing.proofs.Cells.{cell-inside}
 
 -- Byte q is the place of a sample's cell.
@@ -41,32 +40,38 @@ module _ (S : ℕ) (o : Object) where
   unfolding cells
   place-listed p = Memᴰ·cast (p .at) (Memᴰ·map (place S) (Memᴰ·map (cellOf o) (sample-listed (p .is-sample))))
 
-module _ (S : ℕ) (o : Object) (grid : List ℕ) where
+module _ (d : Drawing) (grid : List ℕ) where
+  abbrev o : Object
+  o = d .object
+
+  abbrev S : ℕ
+  S = d .side
+
   -- A refused drawing leaves the grid.
-  pub drawn-refused : {k : ℕ} → drawVerdict S (length grid) o ≡ refused k → drawn S o grid ≡ grid
-  unfolding drawn
+  pub drawn-refused : {k : ℕ} → d .verdict (length grid) ≡ refused k → drawnBy d grid ≡ grid
+  unfolding drawnBy
   drawn-refused e = rw e
 
   -- An accepted one leaves the marks.
-  pub drawn-accepted : drawVerdict S (length grid) o ≡ accepted →
-      drawn S o grid ≡ marked (o .choice) (o .mark) (map (place S) (cells o)) grid
-  unfolding drawn
+  pub drawn-accepted : d .verdict (length grid) ≡ accepted →
+      drawnBy d grid ≡ marked (o .choice) (o .mark) (map (place S) (cells o)) grid
+  unfolding drawnBy
   drawn-accepted e = rw e
 
   -- The grid keeps its length.
-  pub length-drawn : length (drawn S o grid) ≡ length grid
+  pub length-drawn : length (drawnBy d grid) ≡ length grid
   length-drawn =
-      by-verdict (drawVerdict S (length grid) o) _
+      by-verdict (d .verdict (length grid)) _
       (λ e. rw (drawn-accepted e) (length-marked (o .choice) (o .mark) (map (place S) (cells o)) grid))
       (λ k e. ap length (drawn-refused e))
 
   -- Each byte holds what it held, or the drawing is accepted and the byte is the place of a sample's cell and holds
   -- the mark.
   pub drawn-holds : (q : ℕ) → q < length grid →
-      (getD (drawn S o grid) q 0 ≡ getD grid q 0) ⊎
-      ((drawVerdict S (length grid) o ≡ accepted) × PlaceOfSample S o q × (getD (drawn S o grid) q 0 ≡ o .mark))
+      (getD (drawnBy d grid) q 0 ≡ getD grid q 0) ⊎
+      ((d .verdict (length grid) ≡ accepted) × PlaceOfSample S o q × (getD (drawnBy d grid) q 0 ≡ o .mark))
   drawn-holds q h =
-      by-verdict (drawVerdict S (length grid) o) _
+      by-verdict (d .verdict (length grid)) _
       (λ e. rw (drawn-accepted e)
       (⊎-elim (λ kept. inl kept)
       (λ w. ⊎-elim (λ same. inl (w .1 ∙ same)) (λ m. inr (e, of-sample S o (w .0), w .1 ∙ m))
@@ -74,19 +79,20 @@ module _ (S : ℕ) (o : Object) (grid : List ℕ) where
       (marked-holds (o .choice) (o .mark) (map (place S) (cells o)) grid q h)))
       (λ k e. inl (ap (λ l. getD l q 0) (drawn-refused e)))
 
-  -- After an accepted drawing every sample's cell holds what the drawing leaves in a cell that it comes to.
-  pub drawn-there : drawVerdict S (length grid) o ≡ accepted → {is : List ℕ} → Sample (o .counts) is →
-      getD (drawn S o grid) (place S (cellOf o is)) 0 ≡ written (o .choice) (o .mark) (getD grid (place S (cellOf o is)) 0)
-  drawn-there e {is} b =
-      let w = draw-accepted S o (length grid) .0 e in
+  -- After an accepted drawing every sample's cell, which lies in the grid, holds what the drawing leaves in a cell that it
+  -- comes to.
+  pub drawn-there : d .verdict (length grid) ≡ accepted → Drawable S o → length grid ≡ volume S →
+      {is : List ℕ} → Sample (o .counts) is →
+      getD (drawnBy d grid) (place S (cellOf o is)) 0 ≡ written (o .choice) (o .mark) (getD grid (place S (cellOf o is)) 0)
+  drawn-there e w v {is} b =
       rw (drawn-accepted e)
       (marked-there (o .choice) (o .mark) grid
-      (rw (w .1) (place-below S (cellOf o is) (cell-inside (w .0) b)))
+      (rw v (place-below S (cellOf o is) (cell-inside w b)))
       (place-listed S o (record { sample = is; is-sample = b; at = refl })))
 
   -- Marks at the places of the samples' cells, in whatever order, leave what the drawing leaves.
-  pub drawn-in-any-order : drawVerdict S (length grid) o ≡ accepted → (ps : List ℕ) →
-      ((q : ℕ) → List·Memᴰ q ps ↔ PlaceOfSample S o q) → marked (o .choice) (o .mark) ps grid ≡ drawn S o grid
+  pub drawn-in-any-order : d .verdict (length grid) ≡ accepted → (ps : List ℕ) →
+      ((q : ℕ) → List·Memᴰ q ps ↔ PlaceOfSample S o q) → marked (o .choice) (o .mark) ps grid ≡ drawnBy d grid
   drawn-in-any-order e ps same =
       marked-same (o .choice) (o .mark) ps (map (place S) (cells o)) grid
       (λ q. (λ l. place-listed S o (same q .0 l), λ l. same q .1 (of-sample S o l))) ∙

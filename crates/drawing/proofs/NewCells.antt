@@ -17,7 +17,7 @@ use Rattle.cube.proofs.Places.{place-below}
 use Rattle.drawing.specs.declared.Choice.{Choice}
 use Rattle.drawing.specs.Object.{Object, cellOf}
 use Rattle.drawing.specs.Refusals.{drawVerdict}
-use Rattle.drawing.specs.Drawing.{written, marked, cells, drawn, inTurn}
+use Rattle.drawing.specs.Drawing.{written, marked, cells, drawingOf, drawn, inTurn}
 use Rattle.drawing.specs.NewCells.{unmarkedCells, newCells, newInTurn, Different}
 use Rattle.drawing.proofs.Accepted.{draw-accepted}
 use Rattle.drawing.proofs.Cells.{cell-inside}
@@ -167,7 +167,7 @@ module _ (S : ℕ) (o : Object) (grid : List ℕ) where
       rw (s .at, w .1) (place-below S (cellOf o (s .sample)) (cell-inside (w .0) (s .is-sample))) in
       record {
         places = freshPlaces (o .choice) (o .mark) (w .2) ps grid;
-        count = rw (drawn-accepted S o grid e) (fresh-count (o .choice) (o .mark) (w .2) ps grid inside);
+        count = rw (drawn-accepted (drawingOf S o) grid e) (fresh-count (o .choice) (o .mark) (w .2) ps grid inside);
         are = λ q. let f = fresh-are (o .choice) (o .mark) (w .2) ps grid inside q in (
           λ l. (of-sample S o (f .0 l .0), f .0 l .1),
           λ p. f .1 (place-listed S o (p .0), p .1),
@@ -180,7 +180,7 @@ module _ (S : ℕ) (o : Object) (grid : List ℕ) where
   drawn-at-most =
       by-verdict (drawVerdict S (length grid) o) _
       (λ e. omega (arith, new-places e .count))
-      (λ k e. rw (drawn-refused S o grid e) (omega arith))
+      (λ k e. rw (drawn-refused (drawingOf S o) grid e) (omega arith))
 
 -- Two grids of one length that are unmarked at the same places have as many unmarked cells.
 unmarked-alike : (g h : List ℕ) → length g ≡ length h →

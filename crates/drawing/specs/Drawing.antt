@@ -5,7 +5,7 @@ use mathlib.Core.List.{List, [], _∷_, _++_, map}
 use Prim.Native.Nat.{ℕ, zero, suc}
 use lib.Dec.{eqb}
 use lib.ListN.{length, getD, drop, set}
-use Rattle.decide.specs.Refusal.{leaves}
+use Rattle.decide.specs.Refusal.{Verdict, leaves}
 use Rattle.cube.specs.Cube.{x-axis, y-axis, z-axis, Cell, place}
 use Rattle.drawing.specs.declared.Choice.{Choice}
 use Rattle.drawing.specs.declared.Choice.the-variants.{Over, Under}
@@ -47,10 +47,26 @@ bytes (c ∷ cs) = c x-axis ∷ c y-axis ∷ c z-axis ∷ bytes cs
 unfoldable pub cells : Object → List Cell
 cells o = map (cellOf o) (samples (o .counts))
 
+-- A drawing of whatever kind: the side of its cube, the object that it draws, and the verdict of its own order by the
+-- grid's length.
+pub record Drawing : Type 0 where
+  pub side : ℕ
+  pub object : Object
+  pub verdict : (gridLength : ℕ) → Verdict
+
+-- Document 01's, of a curve or a patch.
+abbrev pub drawingOf : (S : ℕ) → Object → Drawing
+drawingOf S o = record { side = S; object = o; verdict = λ gridLength. drawVerdict S gridLength o }
+
 -- The grid after a drawing: an accepted one writes the mark, over or under, in every sample's cell, nothing else.
-unfoldable pub drawn : (S : ℕ) (o : Object) (grid : List ℕ) → List ℕ
-drawn S o grid =
-    leaves (drawVerdict S (length grid) o) (marked (o .choice) (o .mark) (map (place S) (cells o)) grid) grid
+unfoldable pub drawnBy : Drawing → (grid : List ℕ) → List ℕ
+drawnBy d grid =
+    let o : Object = d .object in
+    leaves (d .verdict (length grid)) (marked (o .choice) (o .mark) (map (place (d .side)) (cells o)) grid) grid
+
+-- The same of document 01's.
+abbrev pub drawn : (S : ℕ) (o : Object) (grid : List ℕ) → List ℕ
+drawn S o = drawnBy (drawingOf S o)
 
 -- Each call gets the grid as the last one left it.
 unfoldable pub inTurn : {C : Type 0} (draw : C → List ℕ → List ℕ) → List C → List ℕ → List ℕ

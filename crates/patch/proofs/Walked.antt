@@ -16,7 +16,7 @@ use Rattle.cube.specs.Cube.{Axis, x-axis, y-axis, z-axis, place}
 use Rattle.drawing.specs.declared.Choice.{Choice}
 use Rattle.drawing.specs.Object.{offset, coordinate, scaleOf, exact, cellOf}
 use Rattle.drawing.specs.Refusals.{Drawable, drawVerdict}
-use Rattle.drawing.specs.Drawing.{row, rows, samples, marked, cells, drawn}
+use Rattle.drawing.specs.Drawing.{row, rows, samples, marked, cells, drawnBy, drawn}
 use Rattle.drawing.proofs.Samples.{rows-append, one-row}
 use Rattle.drawing.proofs.Cells.{corner-cell}
 use Rattle.cubic.specs.Axis.{startOf}
@@ -218,7 +218,7 @@ module _ (S : ℕ) (p : Patch) where
   -- What an accepted drawing leaves are the marks of all rows.
   pub drawn-rows : (grid : List ℕ) → drawVerdict S (length grid) (patchOf p) ≡ accepted →
       drawn S (patchOf p) grid ≡ marked (p .choice) (p .mark) (places S p (p .m)) grid
-  unfolding drawn cells samples
+  unfolding drawnBy cells samples
   drawn-rows grid e = rw (e, map-map) (ap (λ l. marked (p .choice) (p .mark) (map (λ s. place S (cellOf (patchOf p) s)) (rows (p .n) l)) grid) (one-row (p .m)))
 
 -- Row 0, with the strides as the code holds them.

@@ -10,6 +10,7 @@ ghost use Rattle.decide.specs.Some.{someOf};
 ghost use Rattle.decide.specs.Refusal.{firstThat};
 ghost use Rattle.decide.specs.Verdict.{verdictOf};
 ghost use Rattle.drawing.specs.Refusals.{countOut, order, checkVerdict};
+ghost use Rattle.drawing.specs.Drawing.{drawingOf};
 ghost use Rattle.scan.specs.Answer.{Draws};
 ghost use Rattle.patch.specs.Patch.{patchOf};
 use decide::Verdict;
@@ -36,7 +37,7 @@ pub fn check_patch(side: u32, patch: Patch) -> Verdict
 
 // Writes the mark, over or under, in each sample's cell of the grid. Refused: 11, 21, 12, 13, 14, 15.
 pub fn draw_patch(side: u32, patch: Patch, grid: &mut [u8]) -> DrawAnswer
-    ensures { λ r. ⌜ Draws side (patchOf patch) (now (grid .entry)) (now (grid .exit)) r ⌝ }
+    ensures { λ r. ⌜ Draws (drawingOf side (patchOf patch)) (now (grid .entry)) (now (grid .exit)) r ⌝ }
 {
     let cube = scan::refusal::is_volume(side, grid.len());
     match verdict(side, patch, !cube, patch.mark == 0) {

@@ -18,7 +18,7 @@ use Rattle.cube.specs.Cube.{sideOut, volume}
 use Rattle.cube.proofs.Words.{side-in}
 use Rattle.drawing.specs.Object.{Object}
 use Rattle.drawing.specs.Refusals.{countOut, coordinateOut, stepsTooLong, order, drawVerdict, listVerdict, sampleCount}
-use Rattle.drawing.specs.Drawing.{drawn}
+use Rattle.drawing.specs.Drawing.{Drawing, drawnBy}
 use Rattle.drawing.specs.NewCells.{unmarkedCells}
 use Rattle.drawing.proofs.Accepted.{coordinate-in}
 use Rattle.drawing.proofs.Drawn.{drawn-refused}
@@ -102,13 +102,13 @@ unfolding drawVerdict
 draw-judged S o bytes same = rw same
 
 -- A drawing's answer and grid, by its verdict.
-module _ (S : ℕ) (o : Object) (grid : List ℕ) where
-  pub draws-refused : {k : ℕ} → drawVerdict S (length grid) o ≡ refused k → Draws S o grid grid (answers.Refused k)
-  draws-refused r = record { answer = rw r; leaves = sym (drawn-refused S o grid r) }
+module _ (d : Drawing) (grid : List ℕ) where
+  pub draws-refused : {k : ℕ} → d .verdict (length grid) ≡ refused k → Draws d grid grid (answers.Refused k)
+  draws-refused r = record { answer = rw r; leaves = sym (drawn-refused d grid r) }
 
-  pub draws-accepted : drawVerdict S (length grid) o ≡ accepted → (after : List ℕ) {count new : ℕ} →
-      after ≡ drawn S o grid → count ≡ sampleCount (o .counts) → new + unmarkedCells after ≡ unmarkedCells grid →
-      Draws S o grid after (answers.Accepted (record { samples = count; «new_cells» = new }))
+  pub draws-accepted : d .verdict (length grid) ≡ accepted → (after : List ℕ) {count new : ℕ} →
+      after ≡ drawnBy d grid → count ≡ sampleCount (d .object .counts) → new + unmarkedCells after ≡ unmarkedCells grid →
+      Draws d grid after (answers.Accepted (record { samples = count; «new_cells» = new }))
   draws-accepted a after e n k = record { answer = rw (a, n, new-of grid after k); leaves = e }
 
 -- A refused listing's answer and list.

@@ -5,7 +5,8 @@ use Prim.Native.Nat.{ℕ}
 use lib.ListN.{length}
 use Rattle.decide.specs.Refusal.{Outcome, gives, refuses, outcome}
 use Rattle.drawing.specs.Object.{Object}
-use Rattle.drawing.specs.Refusals.{drawVerdict, sampleCount}
+use Rattle.drawing.specs.Refusals.{sampleCount}
+use Rattle.drawing.specs.Drawing.{Drawing}
 use Rattle.drawing.specs.NewCells.{newCells}
 use Rattle.scan.specs.declared.answer.Drawn.{Drawn}
 use Rattle.scan.specs.declared.answer.DrawAnswer.{DrawAnswer}
@@ -31,8 +32,7 @@ listing-said : (r : ListAnswer) → listing (listAnswerOf r) ≡ r
 listing-said (lists.Samples n) = refl
 listing-said (lists.Refused k) = refl
 
-module _ (S : ℕ) (o : Object) (grid : List ℕ) {a b : List ℕ} {r s : DrawAnswer} (d : Draws S o grid a r)
-    (e : Draws S o grid b s) where
+module _ (k : Drawing) (grid : List ℕ) {a b : List ℕ} {r s : DrawAnswer} (d : Draws k grid a r) (e : Draws k grid b s) where
   pub grid-unique : a ≡ b
   grid-unique = d .leaves ∙ sym (e .leaves)
 
@@ -40,8 +40,8 @@ module _ (S : ℕ) (o : Object) (grid : List ℕ) {a b : List ℕ} {r s : DrawAn
   draw-answer-unique =
       sym (drawing-said r) ∙
       ap drawing (d .answer ∙
-      ap (λ g. outcome (drawVerdict S (length grid) o)
-      (record { samples = sampleCount (o .counts); «new_cells» = newCells grid g })) grid-unique ∙
+      ap (λ g. outcome (k .verdict (length grid))
+      (record { samples = sampleCount (k .object .counts); «new_cells» = newCells grid g })) grid-unique ∙
       sym (e .answer)) ∙
       drawing-said s
 

@@ -5,8 +5,8 @@ use Prim.Native.Nat.{ℕ}
 use lib.ListN.{length}
 use Rattle.decide.specs.Refusal.{Outcome, gives, refuses, outcome}
 use Rattle.drawing.specs.Object.{Object}
-use Rattle.drawing.specs.Refusals.{drawVerdict, listVerdict, sampleCount}
-use Rattle.drawing.specs.Drawing.{drawn, listed}
+use Rattle.drawing.specs.Refusals.{listVerdict, sampleCount}
+use Rattle.drawing.specs.Drawing.{Drawing, drawnBy, listed}
 use Rattle.drawing.specs.NewCells.{newCells}
 use Rattle.scan.specs.declared.answer.Drawn.{Drawn}
 use Rattle.scan.specs.declared.answer.DrawAnswer.{DrawAnswer}
@@ -19,12 +19,12 @@ abbrev pub drawAnswerOf : DrawAnswer → Outcome Drawn
 drawAnswerOf (draws.Accepted d) = gives d
 drawAnswerOf (draws.Refused k) = refuses k
 
--- A drawing, of whatever object: its answer, with the new cells, those unmarked before minus those unmarked after, and
--- what the grid holds afterwards.
-pub record Draws (S : ℕ) (o : Object) (grid gridAfter : List ℕ) (r : DrawAnswer) : Type 0 where
-  pub answer : drawAnswerOf r ≡ outcome (drawVerdict S (length grid) o)
-      (record { samples = sampleCount (o .counts); «new_cells» = newCells grid gridAfter })
-  pub leaves : gridAfter ≡ drawn S o grid
+-- A drawing of whatever kind: its answer, with the new cells, those unmarked before minus those unmarked after, and what the
+-- grid holds afterwards.
+pub record Draws (d : Drawing) (grid gridAfter : List ℕ) (r : DrawAnswer) : Type 0 where
+  pub answer : drawAnswerOf r ≡ outcome (d .verdict (length grid))
+      (record { samples = sampleCount (d .object .counts); «new_cells» = newCells grid gridAfter })
+  pub leaves : gridAfter ≡ drawnBy d grid
 
 -- What a listing's answer says: the number of samples, or the number that refuses the call.
 abbrev pub listAnswerOf : ListAnswer → Outcome ℕ

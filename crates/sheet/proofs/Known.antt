@@ -9,7 +9,7 @@ use Rattle.neighbours.specs.Steps.{farApart, someSample, tooLong}
 use Rattle.cube.specs.Cube.{someAxis, sideOut, place}
 use Rattle.drawing.specs.Object.{offset, coordinate, exact, cellOf}
 use Rattle.drawing.specs.Refusals.{countOut, coordinateOut, stepsTooLong, order, drawVerdict}
-use Rattle.drawing.specs.Drawing.{row, rows, samples, written, marked, cells, drawn, inTurn}
+use Rattle.drawing.specs.Drawing.{row, rows, samples, written, marked, cells, drawnBy, inTurn}
 use Rattle.sheet.specs.Field.{isDigit, areDigits, afterBlanks, isNumber, digitsOf, isBad, decimal, valueOf, inColumns}
 use Rattle.sheet.specs.Line.{before, lines, isWrong, someBad, inLine}
 use Rattle.sheet.specs.Sheet.{sideOrder, markOut, curveOrder, judgeCurves, judgeLines, judge}
@@ -19,7 +19,7 @@ use Rattle.sheet.specs.Known.{times, known, allPrint}
 pub known-print : T (allPrint output known)
 unfolding blend scale points value someBelow someOf firstThat nearest farApart someSample tooLong
     someAxis sideOut place offset coordinate exact cellOf countOut coordinateOut stepsTooLong order drawVerdict row rows
-    samples written marked cells drawn isDigit areDigits afterBlanks isNumber digitsOf isBad decimal valueOf inColumns
+    samples written marked cells drawnBy isDigit areDigits afterBlanks isNumber digitsOf isBad decimal valueOf inColumns
     before lines isWrong someBad inLine sideOrder markOut curveOrder judgeCurves judgeLines judge inTurn cubeOf cellLine
     cellLines listing refusalLine output times sameBytes allPrint
 known-print = tt

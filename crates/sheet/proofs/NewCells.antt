@@ -8,7 +8,7 @@ use native.Mathlib.Omega.{arith}
 use lib.Dec.{eqb}
 use lib.ListN.{length, replicate, length-replicate}
 use Rattle.cube.specs.Cube.{volume}
-use Rattle.drawing.specs.Drawing.{drawn, inTurn}
+use Rattle.drawing.specs.Drawing.{drawingOf, drawn, inTurn}
 use Rattle.drawing.specs.NewCells.{unmarkedCells}
 use Rattle.drawing.proofs.Drawn.{length-drawn}
 use Rattle.drawing.proofs.NewCells.{unmarked-cleared, drawn-at-most, turns-new}
@@ -31,7 +31,7 @@ length-turn : (S : ℕ) (strokes : List Stroke) (grid : List ℕ) →
     length (inTurn (λ s. drawn S (objectOf s)) strokes grid) ≡ length grid
 unfolding inTurn
 length-turn S [] grid = refl
-length-turn S (s ∷ ss) grid = length-turn S ss (drawn S (objectOf s) grid) ∙ length-drawn S (objectOf s) grid
+length-turn S (s ∷ ss) grid = length-turn S ss (drawn S (objectOf s) grid) ∙ length-drawn (drawingOf S (objectOf s)) grid
 
 module _ (S : ℕ) (strokes : List Stroke) where
   pub length-cube : length (cubeOf S strokes) ≡ volume S

@@ -10,7 +10,7 @@ use lib.Seq.{drop-drop}
 use Rattle.decide.specs.Refusal.{accepted, firstThat}
 use Rattle.decide.proofs.Refusal.{by-verdict}
 use Rattle.cube.specs.Cube.{volume}
-use Rattle.drawing.specs.Drawing.{drawn, inTurn}
+use Rattle.drawing.specs.Drawing.{drawingOf, drawn, inTurn}
 use Rattle.drawing.specs.NewCells.{unmarkedCells, newInTurn}
 use Rattle.drawing.proofs.Drawn.{length-drawn}
 use Rattle.drawing.proofs.NewCells.{new-of}
@@ -224,5 +224,5 @@ module _ {input : List ℕ} {S n : ℕ} (sheet : GoodSheet input S n) where
         left = rw (← at-next i, ← line-next i) (left-more input S (d .left) at-line line-accepted);
         turn = rw two at (d .turn);
         sum = sum-more;
-        whole = length-drawn S (objectOf (strokeOf line)) cube ∙ d .whole;
+        whole = length-drawn (drawingOf S (objectOf (strokeOf line))) cube ∙ d .whole;
       }

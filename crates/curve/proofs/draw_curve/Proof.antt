@@ -9,6 +9,7 @@ use lib.ListN.{length}
 use Rattle.decide.specs.Refusal.{Verdict, accepted, firstThat}
 use Rattle.drawing.specs.Refusals.{order, drawVerdict, sampleCount}
 use Rattle.drawing.proofs.Accepted.{draw-accepted}
+use Rattle.drawing.specs.Drawing.{drawingOf}
 use Rattle.scan.proofs.Orders.{draw-judged, draws-refused, draws-accepted}
 use Rattle.curve.specs.Curve.{curveOf, tellsLong}
 use Rattle.curve.proofs.Judged.{not-long, before-refused, in-limits, test-refused, test-accepted}
@@ -76,7 +77,7 @@ add-samples c =
 returns : tie.Need-returns
 returns c =
     let b = c .before .before .before in
-    draws-refused (s b .args .side) (curveOf (s b .args .curve)) (now (s b .args .grid))
+    draws-refused (drawingOf (s b .args .side) (curveOf (s b .args .curve))) (now (s b .args .grid))
     (judged b ∙
     before-refused (s b .args .side) (s b .args .curve) (wrong b) (unmarked b) false (b .before-test .result)
     (b .before-test .ensures) (c .before .k .given .1))
@@ -85,7 +86,7 @@ returns-2 : tie.Need-returns-2
 returns-2 c =
     let t = c .before .before in
     let b = t .before .before .before in
-    draws-refused (s b .args .side) (curveOf (s b .args .curve)) (now (s b .args .grid))
+    draws-refused (drawingOf (s b .args .side) (curveOf (s b .args .curve))) (now (s b .args .grid))
     (judged b ∙
     test-refused (s b .args .side) (s b .args .curve) (wrong b) (unmarked b) false (b .before-test .result)
     (b .before-test .ensures) (t .before .enum-told .given .1) (t .test-steps .ensures .0)
@@ -100,8 +101,8 @@ returns-3 c =
     let m = c .before .before .before in
     let a = m .before .before in
     let b = a .before .before .before .before in
-    draws-accepted (s b .args .side) (curveOf (s b .args .curve)) (now (s b .args .grid)) (is-accepted a)
-    _ (m .mark-samples .ensures .1) (omega arith) (m .mark-samples .ensures .0)
+    draws-accepted (drawingOf (s b .args .side) (curveOf (s b .args .curve))) (now (s b .args .grid))
+    (is-accepted a) _ (m .mark-samples .ensures .1) (omega arith) (m .mark-samples .ensures .0)
 
 pub draw-curve-spec : {M : Type 1} → statement M
 draw-curve-spec =

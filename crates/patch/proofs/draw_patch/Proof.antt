@@ -10,6 +10,7 @@ use lib.ListN.{length}
 use Rattle.decide.specs.Verdict.{verdictOf}
 use Rattle.drawing.specs.Refusals.{drawVerdict, sampleCount}
 use Rattle.drawing.proofs.Accepted.{draw-accepted}
+use Rattle.drawing.specs.Drawing.{drawingOf}
 use Rattle.scan.proofs.Orders.{draw-judged, draws-refused, draws-accepted}
 use Rattle.patch.specs.Patch.{patchOf}
 use Rattle.patch.proofs.draw_patch.Statement.{statement}
@@ -65,7 +66,7 @@ mul-samples c =
 returns : tie.Need-returns
 returns c =
     let b = c .before .before .before in
-    draws-refused (s b .args .side) (patchOf (s b .args .patch)) (now (s b .args .grid))
+    draws-refused (drawingOf (s b .args .side) (patchOf (s b .args .patch))) (now (s b .args .grid))
     (judged b ∙ ap verdictOf (c .before .k .given .1))
 
 same-length : tie.Need-same-length
@@ -77,7 +78,7 @@ returns-2 c =
     let m = c .before .before .before .before in
     let t = m .before .before in
     let b = t .before .before in
-    draws-accepted (s b .args .side) (patchOf (s b .args .patch)) (now (s b .args .grid))
+    draws-accepted (drawingOf (s b .args .side) (patchOf (s b .args .patch))) (now (s b .args .grid))
     (judged b ∙ ap verdictOf (t .enum-told .given .1)) _ (m .mark-rows .ensures .1) (omega arith) (m .mark-rows .ensures .0)
 
 pub draw-patch-spec : {M : Type 1} → statement M
