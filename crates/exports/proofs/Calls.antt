@@ -11,7 +11,8 @@ use Rattle.decide.specs.Refusal.{Rule, _when_, Verdict, accepted, refused, Outc
 use Rattle.decide.proofs.Truth.{true-of, false-of, less}
 use Rattle.decide.proofs.Refusal.{telling-outcome, first-applies, first-passes}
 use Rattle.drawing.specs.Object.{Object}
-use Rattle.drawing.specs.Refusals.{checkVerdict, drawVerdict, sampleCount}
+use Rattle.drawing.specs.Refusals.{checkVerdict, sampleCount}
+use Rattle.drawing.specs.Drawing.{Drawing}
 use Rattle.drawing.specs.NewCells.{newCells}
 use Rattle.scan.specs.declared.answer.Drawn.{Drawn}
 use Rattle.scan.specs.declared.answer.DrawAnswer.{DrawAnswer}
@@ -65,17 +66,25 @@ module _ (own : List Rule) (v : Verdict) (n : ℕ) (left before : List ℕ) wher
     leaves = l ∙ sym (ap (λ u. refusal.leaves u left before) h);
   }
 
+-- A call that answers a number and is lent nothing.
+module _ (size : ℕ) (bytes : List ℕ) (v : Verdict) (n : ℕ) {r : ℤ} where
+  pub wrong-answer : (length bytes ≡ size → ⊥) → r ≡ minus 51 → r ≡ signed (ownFirst (recordOrder size bytes) v) n
+  wrong-answer w e = own-answer (recordOrder size bytes) v n (wrong-length size bytes [] w) e
+
+  pub right-answer : {a : Outcome ℕ} → length bytes ≡ size → a ≡ outcome v n → r ≡ signedOf a →
+      r ≡ signed (ownFirst (recordOrder size bytes) v) n
+  right-answer h s e = call-answer (recordOrder size bytes) v n (right-length size bytes h) (e ∙ ap signedOf s)
+
 -- A check, by the object that the record's bytes stand for, and what it tells of an accepted one.
 module _ (size S : ℕ) (o : Object) (told : Object → ℕ) {r : ℤ} where
   pub wrong-check : (length (o .points) ≡ size → ⊥) → r ≡ minus 51 → ChecksBytes size S o (told o) r
-  wrong-check w e =
-      own-answer (recordOrder size (o .points)) (checkVerdict S o) (told o) (wrong-length size (o .points) [] w) e
+  wrong-check w e = wrong-answer size (o .points) (checkVerdict S o) (told o) w e
 
   pub right-check : (p : Object) {a : Outcome ℕ} → length (o .points) ≡ size → p ≡ o → a ≡ outcome (checkVerdict S p) (told p) →
       r ≡ signedOf a → ChecksBytes size S o (told o) r
   right-check p h same found e =
-      call-answer (recordOrder size (o .points)) (checkVerdict S o) (told o) (right-length size (o .points) h)
-      (e ∙ ap signedOf (found ∙ ap (λ q. outcome (checkVerdict S q) (told q)) same))
+      right-answer size (o .points) (checkVerdict S o) (told o) h
+      (found ∙ ap (λ q. outcome (checkVerdict S q) (told q)) same) e
 
 -- A listing.
 module _ (size : ℕ) (bytes : List ℕ) (v : Verdict) (n : ℕ) (left before : List ℕ) where
@@ -88,40 +97,43 @@ module _ (size : ℕ) (bytes : List ℕ) (v : Verdict) (n : ℕ) (left before : 
   right-listing h s l e = passed-call (recordOrder size bytes) v n left before (right-length size bytes h) s l e
 
 -- A drawing.
-module _ (size S choice : ℕ) (o : Object) (grid : List ℕ) where
+module _ (size choice : ℕ) (d : Drawing) (grid : List ℕ) where
+  abbrev o : Object
+  o = d .object
+
   abbrev own : List Rule
   own = drawOrder size (o .points) choice
 
   refused-drawing : {k new : ℕ} {r : ℤ} → firstThat own ≡ refused k → r ≡ minus k →
-      DrawsBytes size S choice o grid grid new new r
+      DrawsBytes size choice d grid grid new new r
   refused-drawing {new = new} w e = record {
     call = own-call own _ _ _ _ w e;
     new-cells =
-        sym (ap (λ u. refusal.leaves (orElse u (drawVerdict S (length grid) o)) (newCells grid grid) new) w);
+        sym (ap (λ u. refusal.leaves (orElse u (d .verdict (length grid))) (newCells grid grid) new) w);
   }
 
   pub wrong-record : {new : ℕ} {r : ℤ} → (length (o .points) ≡ size → ⊥) → r ≡ minus 51 →
-      DrawsBytes size S choice o grid grid new new r
+      DrawsBytes size choice d grid grid new new r
   wrong-record w e = refused-drawing (wrong-length size (o .points) (55 when noChoice choice ∷ []) w) e
 
   pub wrong-number : {new : ℕ} {r : ℤ} → length (o .points) ≡ size → 1 < choice → r ≡ minus 55 →
-      DrawsBytes size S choice o grid grid new new r
+      DrawsBytes size choice d grid grid new new r
   wrong-number h w e = refused-drawing (wrong-choice size (o .points) h w) e
 
-  -- By the object that the record's bytes and the choice's number stand for.
-  pub right-drawing : (p : Object) {after : List ℕ} {a : DrawAnswer} {new newNow : ℕ} {r : ℤ} →
-      length (o .points) ≡ size → choice ≤ 1 → p ≡ o → Draws S p grid after a →
+  -- By the drawing that the record's bytes and the choice's number stand for.
+  pub right-drawing : (p : Drawing) {after : List ℕ} {a : DrawAnswer} {new newNow : ℕ} {r : ℤ} →
+      length (o .points) ≡ size → choice ≤ 1 → p ≡ d → Draws p grid after a →
       r ≡ signedOf (samplesOf (drawAnswerOf a)) → newNow ≡ newCellsAfter (drawAnswerOf a) new →
-      DrawsBytes size S choice o grid after new newNow r
-  right-drawing p {after} {new = new} h k same d e q =
-      let v : Verdict = drawVerdict S (length grid) o in
+      DrawsBytes size choice d grid after new newNow r
+  right-drawing p {after} {new = new} h k same t e q =
+      let v : Verdict = d .verdict (length grid) in
       let counts : Drawn = record { samples = sampleCount (o .counts); «new_cells» = newCells grid after } in
-      let d′ = rw same at d in
+      let t′ = rw same at t in
       let passed = right-choice size (o .points) h k in
       record {
-        call = passed-call own v _ _ _ passed (ap samplesOf (d′ .answer) ∙ telling-outcome (λ d. d .samples) v counts) (d′ .leaves) e;
+        call = passed-call own v _ _ _ passed (ap samplesOf (t′ .answer) ∙ telling-outcome (λ k. k .samples) v counts) (t′ .leaves) e;
         new-cells =
-            q ∙ ap (λ a. newCellsAfter a new) (d′ .answer) ∙ new-outcome v counts new ∙
+            q ∙ ap (λ a. newCellsAfter a new) (t′ .answer) ∙ new-outcome v counts new ∙
             ap (λ u. refusal.leaves (orElse u v) (newCells grid after) new) (sym passed);
       }
     where

@@ -12,10 +12,11 @@ use Rattle.decide.specs.Refusal.{Rule, _when_, Verdict, Outcome, gives, refuses
 use Rattle.drawing.specs.declared.Choice.{Choice}
 use Rattle.drawing.specs.declared.Choice.the-variants.{Over, Under}
 use Rattle.drawing.specs.Object.{Object}
-use Rattle.drawing.specs.Refusals.{checkVerdict, drawVerdict, listVerdict, sampleCount}
-use Rattle.drawing.specs.Drawing.{drawn, listed}
+use Rattle.drawing.specs.Refusals.{checkVerdict, listVerdict, sampleCount}
+use Rattle.drawing.specs.Drawing.{Drawing, drawnBy, listed}
 use Rattle.drawing.specs.NewCells.{newCells}
 use Rattle.scan.specs.declared.answer.Drawn.{Drawn}
+use Rattle.chosen.specs.Chosen.{chosen, countVerdict}
 use Rattle.exports.specs.Signed.{signed, otherLength, ownFirst}
 
 -- 0 is over, and any other number under: 1, since 55 refuses the rest.
@@ -55,6 +56,10 @@ quitNumber quit = cond quit 1 0
 abbrev pub quitOf : Outcome Bool → Outcome ℕ
 quitOf = telling quitNumber
 
+-- The count that the box chooses, or minus the number.
+abbrev pub CountsBytes : (size S : ℕ) (points : List ℕ) (r : ℤ) → Type 0
+CountsBytes size S points r = r ≡ signed (ownFirst (recordOrder size points) (countVerdict S points)) (chosen points)
+
 -- Of what a drawing answers, the number of samples, and what stands for its new cells afterwards: their number, or where it
 -- is refused what was there.
 abbrev pub samplesOf : Outcome Drawn → Outcome ℕ
@@ -64,13 +69,13 @@ abbrev pub newCellsAfter : Outcome Drawn → (before : ℕ) → ℕ
 newCellsAfter (gives d) before = d .«new_cells»
 newCellsAfter (refuses k) before = before
 
--- A drawing, with the number of its choice: the number of samples, or minus the number; the grid; and the number of new
+-- A drawing of whatever kind, with the number of its choice: the number of samples, or minus the number; the grid; and the number of new
 -- cells.
-pub record DrawsBytes (size S choice : ℕ) (o : Object) (grid gridNow : List ℕ) (new newNow : ℕ) (r : ℤ) : Type 0 where
-  pub call : Calls (drawOrder size (o .points) choice) (drawVerdict S (length grid) o) (sampleCount (o .counts)) (drawn S o grid)
-      grid gridNow r
+pub record DrawsBytes (size choice : ℕ) (d : Drawing) (grid gridNow : List ℕ) (new newNow : ℕ) (r : ℤ) : Type 0 where
+  pub call : Calls (drawOrder size (d .object .points) choice) (d .verdict (length grid)) (sampleCount (d .object .counts))
+      (drawnBy d grid) grid gridNow r
   pub new-cells : newNow ≡
-      refusal.leaves (ownFirst (drawOrder size (o .points) choice) (drawVerdict S (length grid) o)) (newCells grid gridNow) new
+      refusal.leaves (ownFirst (drawOrder size (d .object .points) choice) (d .verdict (length grid))) (newCells grid gridNow) new
 
 -- A listing: the number of samples, or minus the number; and the list.
 abbrev pub ListsBytes : (size S : ℕ) (o : Object) (list listNow : List ℕ) (r : ℤ) → Type 0

@@ -3,12 +3,15 @@ ghost use mathlib.Core.Path.{_≡_};
 ghost use lib.ListN.{length};
 ghost use Rattle.drawing.specs.declared.Choice.the-variants.{Over};
 ghost use Rattle.drawing.specs.Object.{curve};
+ghost use Rattle.drawing.specs.Drawing.{drawingOf};
 ghost use Rattle.gaps.specs.Gaps.{quits};
 ghost use Rattle.curve.specs.Curve.{curveOf};
-ghost use Rattle.exports.specs.Records.{choiceOf, ChecksBytes, quitNumber, ListsBytes, DrawsBytes};
+ghost use Rattle.chosen.specs.Chosen.{chosenDrawing};
+ghost use Rattle.exports.specs.Records.{choiceOf, ChecksBytes, quitNumber, CountsBytes, ListsBytes, DrawsBytes};
 use crate::signed::choice_of;
 use crate::signed::copy;
 use crate::signed::of_check;
+use crate::signed::of_count;
 use crate::signed::of_drawing;
 use crate::signed::of_listing;
 use crate::signed::refused;
@@ -60,8 +63,8 @@ pub extern "C" fn gidzkhalu_draw_curve(
     grid: &mut [u8],
     new_cells: &mut u32,
 ) -> i64
-    ensures { λ r. ⌜ DrawsBytes 12 side choice (curve steps (now (points .entry)) mark (choiceOf choice)) (now (grid .entry))
-        (now (grid .exit)) (now («new_cells» .entry)) (now («new_cells» .exit)) r ⌝ }
+    ensures { λ r. ⌜ DrawsBytes 12 choice (drawingOf side (curve steps (now (points .entry)) mark (choiceOf choice)))
+        (now (grid .entry)) (now (grid .exit)) (now («new_cells» .entry)) (now («new_cells» .exit)) r ⌝ }
 {
     if points.len() != 12 {
         return refused(51);
@@ -71,6 +74,40 @@ pub extern "C" fn gidzkhalu_draw_curve(
     }
     of_drawing(
         curve::draw_curve(side, curve_of(points, steps, mark, choice_of(choice)), grid),
+        new_cells,
+    )
+}
+
+#[no_mangle]
+pub extern "C" fn gidzkhalu_choose_steps(side: u32, points: &[u8]) -> i64
+    ensures { λ r. ⌜ CountsBytes 12 side (now (points .entry)) r ⌝ }
+{
+    if points.len() != 12 {
+        return refused(51);
+    }
+    of_count(chosen::choose_steps(side, curve_of(points, 0, 0, Choice::Over)))
+}
+
+#[no_mangle]
+pub extern "C" fn gidzkhalu_draw_chosen(
+    side: u32,
+    points: &[u8],
+    mark: u8,
+    choice: u32,
+    grid: &mut [u8],
+    new_cells: &mut u32,
+) -> i64
+    ensures { λ r. ⌜ DrawsBytes 12 choice (chosenDrawing side (now (points .entry)) mark (choiceOf choice))
+        (now (grid .entry)) (now (grid .exit)) (now («new_cells» .entry)) (now («new_cells» .exit)) r ⌝ }
+{
+    if points.len() != 12 {
+        return refused(51);
+    }
+    if choice > 1 {
+        return refused(55);
+    }
+    of_drawing(
+        chosen::draw_chosen(side, curve_of(points, 0, mark, choice_of(choice)), grid),
         new_cells,
     )
 }

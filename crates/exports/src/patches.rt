@@ -3,6 +3,7 @@ ghost use mathlib.Core.Path.{_≡_};
 ghost use lib.ListN.{length};
 ghost use Rattle.drawing.specs.declared.Choice.the-variants.{Over};
 ghost use Rattle.drawing.specs.Object.{patch};
+ghost use Rattle.drawing.specs.Drawing.{drawingOf};
 ghost use Rattle.patch.specs.Patch.{patchOf};
 ghost use Rattle.exports.specs.Records.{choiceOf, ChecksBytes, DrawsBytes};
 use crate::signed::choice_of;
@@ -50,8 +51,8 @@ pub extern "C" fn gidzkhalu_draw_patch(
     grid: &mut [u8],
     new_cells: &mut u32,
 ) -> i64
-    ensures { λ r. ⌜ DrawsBytes 48 side choice (patch n m (now (points .entry)) mark (choiceOf choice)) (now (grid .entry))
-        (now (grid .exit)) (now («new_cells» .entry)) (now («new_cells» .exit)) r ⌝ }
+    ensures { λ r. ⌜ DrawsBytes 48 choice (drawingOf side (patch n m (now (points .entry)) mark (choiceOf choice)))
+        (now (grid .entry)) (now (grid .exit)) (now («new_cells» .entry)) (now («new_cells» .exit)) r ⌝ }
 {
     if points.len() != 48 {
         return refused(51);

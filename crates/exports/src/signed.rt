@@ -7,8 +7,10 @@ ghost use Rattle.integers.specs.Magnitude.{Within};
 ghost use Rattle.decide.specs.Verdict.{verdictOf};
 ghost use Rattle.scan.specs.Answer.{drawAnswerOf, listAnswerOf};
 ghost use Rattle.curve.specs.Curve.{checkAnswerOf};
+ghost use Rattle.chosen.specs.Chosen.{countAnswerOf};
 ghost use Rattle.exports.specs.Signed.{minus, signed, signedOf};
 ghost use Rattle.exports.specs.Records.{choiceOf, quitOf, samplesOf, newCellsAfter};
+use chosen::CountAnswer;
 use curve::CheckAnswer;
 use decide::Verdict;
 use drawing::Choice;
@@ -37,6 +39,16 @@ pub(crate) fn of_check(answer: CheckAnswer) -> i64
         CheckAnswer::Walked => 0,
         CheckAnswer::Quit => 1,
         CheckAnswer::Refused(number) => refused(number),
+    }
+}
+
+// Of the count alone.
+pub(crate) fn of_count(answer: CountAnswer) -> i64
+    ensures { λ r. ⌜ (r ≡ signedOf (countAnswerOf answer)) × Within (2 ^ 32) r ⌝ }
+{
+    match answer {
+        CountAnswer::Steps(count) => accepted(count),
+        CountAnswer::Refused(number) => refused(number),
     }
 }
 
