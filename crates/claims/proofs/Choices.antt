@@ -9,7 +9,7 @@ use Rattle.cube.specs.Cube.{Cell, Inside, place}
 use Rattle.cube.proofs.Places.{place-below, place-injective}
 use Rattle.drawing.specs.Object.{Object, cellOf}
 use Rattle.drawing.specs.Refusals.{drawVerdict}
-use Rattle.drawing.specs.Drawing.{written, drawn}
+use Rattle.drawing.specs.Drawing.{written, drawingOf, drawn}
 use Rattle.drawing.proofs.Accepted.{draw-accepted}
 use Rattle.drawing.proofs.Cells.{cell-inside}
 use Rattle.drawing.proofs.Marked as marks
@@ -21,7 +21,9 @@ use Rattle.claims.specs.Choices.{OverOrUnder, Claim}
 module _ (S : ℕ) (o : Object) (grid : List ℕ) (e : drawVerdict S (length grid) o ≡ accepted) where
   -- What the drawing leaves at the place of a sample's cell.
   at-sample : {q : ℕ} → PlaceOfSample S o q → getD (drawn S o grid) q 0 ≡ written (o .choice) (o .mark) (getD grid q 0)
-  at-sample p = rw (p .at) (drawn-there S o grid e (p .is-sample))
+  at-sample p =
+      let w = draw-accepted S o (length grid) .0 e in
+      rw (p .at) (drawn-there (drawingOf S o) grid e (w .0) (w .1) (p .is-sample))
 
   -- The place of a sample's cell.
   place-of : (c : Cell) → CellOfSample o c → PlaceOfSample S o (place S c)
@@ -45,15 +47,15 @@ module _ (S : ℕ) (o : Object) (grid : List ℕ) (e : drawVerdict S (length gri
     under-keeps = λ k c inside n.
         ⊎-elim (λ kept. kept)
         (λ w. at-sample (w .1) ∙ ap (λ h. written h (o .mark) (getD grid (place S c) 0)) k ∙ marks.under-keeps (o .mark) n)
-        (drawn-holds S o grid (place S c) (in-grid c inside));
+        (drawn-holds (drawingOf S o) grid (place S c) (in-grid c inside));
     under-fills = λ k c s z.
         at-sample (place-of c s) ∙ ap (λ h. written h (o .mark) (getD grid (place S c) 0)) k ∙ marks.under-fills (o .mark) z;
     over-marks = λ k c s.
         at-sample (place-of c s) ∙ ap (λ h. written h (o .mark) (getD grid (place S c) 0)) k ∙ marks.over-writes (o .mark) _;
     others-stay = λ c inside n.
-        ⊎-elim (λ kept. kept) (λ w. absurd (n (cell-of c inside (w .1)))) (drawn-holds S o grid (place S c) (in-grid c inside));
+        ⊎-elim (λ kept. kept) (λ w. absurd (n (cell-of c inside (w .1)))) (drawn-holds (drawingOf S o) grid (place S c) (in-grid c inside));
     in-any-order = λ cells these.
-        drawn-in-any-order S o grid e (map (place S) cells) (λ q. (
+        drawn-in-any-order (drawingOf S o) grid e (map (place S) cells) (λ q. (
           λ l. let w = Memᴰ·of-map (place S) cells l in
               let s = these (w .0) .0 (w .1) in
               record { sample = s .sample; is-sample = s .is-sample; at = sym (w .2) ∙ ap (place S) (s .is-its-cell) },

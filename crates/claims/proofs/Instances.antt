@@ -15,9 +15,11 @@ use Rattle.drawing.specs.declared.Choice.{Choice}
 use Rattle.drawing.specs.declared.Choice.the-variants.{Over, Under}
 use Rattle.drawing.specs.Object.{offset, coordinate, exact, cellOf}
 use Rattle.drawing.specs.Refusals.{countOut, coordinateOut, stepsTooLong, order, drawVerdict}
-use Rattle.drawing.specs.Drawing.{row, rows, samples, written, marked, cells, drawn, inTurn}
+use Rattle.drawing.specs.Drawing.{row, rows, samples, written, marked, cells, drawnBy, inTurn}
 use Rattle.drawing.specs.NewCells.{unmarkedCells, newCells}
-use Rattle.claims.specs.Demand3.{Call, draw-curve, draw-patch, run, Accepted}
+use Rattle.gaps.specs.Gaps.{gap, gapAfter, gapAlong, largestGap}
+use Rattle.chosen.specs.Chosen.{refusesCount, firstAccepted, chosen, chosenOrder}
+use Rattle.claims.specs.Demand3.{Call, draw-curve, draw-patch, draw-chosen, run, Accepted}
 
 -- Along x from (0, 0, 0) to (1, 0, 0), and along y from (0, 0, 0) to (0, 1, 0), in one step each.
 abbrev along-x : Choice → ℕ → Call
@@ -39,22 +41,31 @@ is-accepted = refl
 -- Mark 0 is refused, and the grid keeps what it held.
 pub refused-leaves : run (along-x Over 0 ∷ []) held ≡ held
 unfolding blend scale points value someBelow someOf firstThat farApart someSample tooLong someAxis sideOut offset coordinate exact
-    countOut coordinateOut stepsTooLong order drawVerdict inTurn run drawn
+    countOut coordinateOut stepsTooLong order drawVerdict inTurn run drawnBy
 refused-leaves = refl
 
 -- The second stroke takes the cell that both pass; the first keeps its other cell, and every other cell keeps its byte.
 pub later-over-earlier : run (along-x Over 100 ∷ along-y Over 200 ∷ []) held ≡ 200 ∷ 100 ∷ 200 ∷ 4 ∷ 5 ∷ 6 ∷ 7 ∷ 8 ∷ []
 unfolding blend scale points value someBelow someOf firstThat nearest farApart someSample tooLong
     someAxis sideOut place offset coordinate exact cellOf countOut coordinateOut stepsTooLong order drawVerdict row rows samples
-    written marked cells drawn inTurn run
+    written marked cells drawnBy inTurn run
 later-over-earlier = refl
 
 -- From under, the second stroke leaves the cell that both pass to the first, and takes its other one, which is unmarked.
 pub under-earlier : run (along-x Over 100 ∷ along-y Under 200 ∷ []) (replicate 8 0) ≡ 100 ∷ 100 ∷ 200 ∷ replicate 5 0
 unfolding blend scale points value someBelow someOf firstThat nearest farApart someSample tooLong
     someAxis sideOut place offset coordinate exact cellOf countOut coordinateOut stepsTooLong order drawVerdict row rows samples
-    written marked cells drawn inTurn run
+    written marked cells drawnBy inTurn run
 under-earlier = refl
+
+-- With a chosen count the same points are drawn the same, and a record whose mark is 0 is refused.
+pub with-a-chosen-count :
+    (run (draw-chosen 2 (0 ∷ 0 ∷ 0 ∷ 0 ∷ 0 ∷ 0 ∷ 1 ∷ 0 ∷ 0 ∷ 1 ∷ 0 ∷ 0 ∷ []) 100 Over ∷ []) held ≡ 100 ∷ 100 ∷ 3 ∷ 4 ∷ 5 ∷ 6 ∷ 7 ∷ 8 ∷ []) ×
+    (run (draw-chosen 2 (0 ∷ 0 ∷ 0 ∷ 0 ∷ 0 ∷ 0 ∷ 1 ∷ 0 ∷ 0 ∷ 1 ∷ 0 ∷ 0 ∷ []) 0 Over ∷ []) held ≡ held)
+unfolding blend scale points value someBelow someOf firstThat nearest farApart someSample tooLong
+    someAxis sideOut place offset coordinate exact cellOf countOut coordinateOut stepsTooLong order drawVerdict row rows samples
+    written marked cells drawnBy inTurn run gap gapAfter gapAlong largestGap refusesCount firstAccepted chosen chosenOrder
+with-a-chosen-count = (refl, refl)
 
 -- From an unmarked cube the first of the two has two new cells, the second, which shares one of its two with the first,
 -- one, over or under, and the first once more, with another mark, none; a cell that both samples of a stroke share is new once.
@@ -72,7 +83,7 @@ pub new-by-turns :
     (newAfter (along-x Over 100 ∷ []) in-one-cell ≡ 1)
 unfolding blend scale points value someBelow someOf firstThat nearest farApart someSample tooLong
     someAxis sideOut place offset coordinate exact cellOf countOut coordinateOut stepsTooLong order drawVerdict row rows samples
-    written marked cells drawn inTurn run unmarkedCells newCells
+    written marked cells drawnBy inTurn run unmarkedCells newCells
 new-by-turns = (refl, refl, refl, refl, refl)
 
 -- Two rows of three samples: x is 0, 1/2, 1 and 1, 3/2, 2, y is 0, 1, 2 in both.
@@ -89,5 +100,5 @@ two-rows =
 pub no-slit : run (two-rows ∷ []) (replicate 27 0) ≡ 9 ∷ 9 ∷ 0 ∷ 9 ∷ 9 ∷ 0 ∷ 0 ∷ 9 ∷ 9 ∷ replicate 18 0
 unfolding blend scale points value someBelow someOf firstThat nearest farApart someSample tooLong
     someAxis sideOut place offset coordinate exact cellOf countOut coordinateOut stepsTooLong order drawVerdict row rows samples
-    written marked cells drawn inTurn run
+    written marked cells drawnBy inTurn run
 no-slit = refl

@@ -3,7 +3,7 @@
 -- accepted sheet call is a list of its own. `Instances`: small computed cases, which show that demand 3 speaks of
 -- something. `Totals`: the totals of an accepted sheet add up. `Slits`: patches have no slits. `NewCells`: new cells
 -- are different cells, and those of a sheet add up. `Choices`: strokes that go over and strokes that go under.
--- `Quits`: where the test of a curve quits no step is too long.
+-- `Quits`: where the test of a curve quits no step is too long. `Chosen`: the count that the box chooses is the smallest.
 pub mod Known
 pub mod Turns
 pub mod Demand3
@@ -16,3 +16,4 @@ pub mod Slits
 pub mod NewCells
 pub mod Choices
 pub mod Quits
+pub mod Chosen

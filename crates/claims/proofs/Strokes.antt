@@ -7,12 +7,12 @@ use Prim.Native.Nat.{ℕ}
 use lib.ListN.{length, getD, length-replicate, getD-replicate}
 use Rattle.cube.specs.Cube.{place, volume}
 use Rattle.cube.proofs.Places.{place-below}
-use Rattle.drawing.specs.Drawing.{drawn, inTurn}
+use Rattle.drawing.specs.Drawing.{drawnBy, inTurn}
 use Rattle.sheet.specs.Sheet.{Stroke, good, judge}
 use Rattle.sheet.specs.Printed.{cubeOf}
 use Rattle.sheet_cube.proofs.Judged.{passes, passes-draws}
 use Rattle.sheet_cube.proofs.Drawing.{Each, each-one, good-strokes}
-use Rattle.claims.specs.Demand3.{sideOf, objectOf, run, Accepted, MarkOfNearObject, Demand3}
+use Rattle.claims.specs.Demand3.{drawingBy, run, Accepted, MarkOfNearObject, Demand3}
 use Rattle.claims.specs.Strokes.{unmarked, callOf, drawing, StrokesDrawn}
 use Rattle.claims.proofs.Demand3.{claim}
 
@@ -53,4 +53,4 @@ turn-map draw call (a ∷ l) grid = turn-map draw call l (draw (call a) grid)
 -- The sheet's cube is the one that `StrokesDrawn` speaks of.
 pub sheet-cube : (S : ℕ) (strokes : List Stroke) → cubeOf S strokes ≡ drawing S strokes
 unfolding cubeOf run
-sheet-cube S strokes = turn-map (λ call. drawn (sideOf call) (objectOf call)) (callOf S) strokes (unmarked S)
+sheet-cube S strokes = turn-map (λ call. drawnBy (drawingBy call)) (callOf S) strokes (unmarked S)

@@ -12,7 +12,7 @@ use Rattle.decide.proofs.Truth.{both-false, false-iff, not-less}
 use Rattle.cube.specs.Cube.{volume}
 use Rattle.drawing.specs.Object.{Object}
 use Rattle.drawing.specs.Refusals.{order}
-use Rattle.drawing.specs.Drawing.{drawn, inTurn}
+use Rattle.drawing.specs.Drawing.{drawingOf, drawn, inTurn}
 use Rattle.drawing.proofs.Drawn.{drawn-holds, length-drawn}
 use Rattle.sheet.specs.Line.{number}
 use Rattle.sheet.specs.Sheet.{Stroke, strokeOf, objectOf, markOut, curveOrder, good, judge}
@@ -44,11 +44,11 @@ Marks strokes = Each (λ s. s .mark < 256) strokes
 -- One drawing more leaves bytes.
 drawn-bytes : (S : ℕ) (o : Object) (grid : List ℕ) → o .mark < 256 → Bytes grid → Bytes (drawn S o grid)
 drawn-bytes S o grid small bytes q l =
-    let there : q < length grid = omega (arith, l, length-drawn S o grid) in
+    let there : q < length grid = omega (arith, l, length-drawn (drawingOf S o) grid) in
     ⊎-elim
     (λ kept. rw kept (bytes q there))
     (λ w. rw (w .2) small)
-    (drawn-holds S o grid q there)
+    (drawn-holds (drawingOf S o) grid q there)
 
 turns-bytes : (S : ℕ) (strokes : List Stroke) (grid : List ℕ) → Marks strokes → Bytes grid →
     Bytes (inTurn (λ s. drawn S (objectOf s)) strokes grid)

@@ -1,5 +1,5 @@
--- Demand 3, with "The words of demand 3" of document 01 and document 02's A.11: one claim about a whole list of calls that
--- draw into one cube, over or under.
+-- Demand 3, with "The words of demand 3" of document 01 and document 02's A.6 and A.11: one claim about a whole list of calls
+-- that draw into one cube, over or under.
 use mathlib.Core.Path.{_≡_}
 use mathlib.Core.Logic.{_⊎_}
 use mathlib.Core.List.{List, [], _∷_, _++_, List·Memᴰ}
@@ -14,30 +14,32 @@ use Rattle.cube.specs.Cube.{Axis, Cell, Inside, place, volume}
 use Rattle.drawing.specs.declared.Choice.{Choice}
 use Rattle.drawing.specs.declared.Choice.the-variants.{Over, Under}
 use Rattle.drawing.specs.Object.{Object, curve, patch, scaleOf, exact, cellOf}
-use Rattle.drawing.specs.Refusals.{drawVerdict}
-use Rattle.drawing.specs.Drawing.{drawn, inTurn}
+use Rattle.drawing.specs.Drawing.{Drawing, drawingOf, drawnBy, inTurn}
+use Rattle.chosen.specs.Chosen.{chosenDrawing}
 
--- The list holds curve draws and patch draws, each with any side and any record.
+-- The list holds curve draws, patch draws and curve draws with a chosen count, each with any side and any record. The last
+-- has no n: its object is the curve with the chosen one.
 pub data Call : Type 0 where
   draw-curve : (side n : ℕ) (points : List ℕ) (mark : ℕ) (choice : Choice) → Call
   draw-patch : (side n m : ℕ) (points : List ℕ) (mark : ℕ) (choice : Choice) → Call
+  draw-chosen : (side : ℕ) (points : List ℕ) (mark : ℕ) (choice : Choice) → Call
 
-abbrev pub sideOf : Call → ℕ
-sideOf (draw-curve side n points mark choice) = side
-sideOf (draw-patch side n m points mark choice) = side
+abbrev pub drawingBy : Call → Drawing
+drawingBy (draw-curve side n points mark choice) = drawingOf side (curve n points mark choice)
+drawingBy (draw-patch side n m points mark choice) = drawingOf side (patch n m points mark choice)
+drawingBy (draw-chosen side points mark choice) = chosenDrawing side points mark choice
 
 abbrev pub objectOf : Call → Object
-objectOf (draw-curve side n points mark choice) = curve n points mark choice
-objectOf (draw-patch side n m points mark choice) = patch n m points mark choice
+objectOf call = drawingBy call .object
 
 -- The grid after a list of calls, refused ones included.
 unfoldable pub run : List Call → List ℕ → List ℕ
-run = inTurn (λ call. drawn (sideOf call) (objectOf call))
+run = inTurn (λ call. drawnBy (drawingBy call))
 
 -- An object is accepted if no number in its own call's drawing order applies, judged by the arguments and the grid's
 -- length alone.
 abbrev pub Accepted : (gridLength : ℕ) → Call → Type 0
-Accepted gridLength call = drawVerdict (sideOf call) gridLength (objectOf call) ≡ accepted
+Accepted gridLength call = drawingBy call .verdict gridLength ≡ accepted
 
 -- A sample lies within half a cell of a cell on every axis.
 abbrev pub SampleNear : (o : Object) (sample : List ℕ) (c : Cell) → Type 0

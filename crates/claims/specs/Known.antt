@@ -61,7 +61,7 @@ known =
     []
 
 -- The coordinates of points, or the bytes of cells, with these x, and with y and z 0.
-abbrev alongX : List ℕ → List ℕ
+abbrev pub alongX : List ℕ → List ℕ
 alongX [] = []
 alongX (g ∷ gs) = g ∷ 0 ∷ 0 ∷ alongX gs
 

@@ -2,7 +2,7 @@
 -- the same for the curve lines of a sheet. `Calls`: calls to the functions that draw. `Sheets`: calls to the function that
 -- draws a sheet. `Totals`: what a sheet's totals add up to. `Slits`: neighbouring samples have cells next to each other.
 -- `NewCells`: the new cells of a drawing and of a sheet. `Choices`: strokes that go over and strokes that go under.
--- `Quits`: where the long-step test of a curve quits.
+-- `Quits`: where the long-step test of a curve quits. `Chosen`: the step count that the box chooses.
 pub mod Known
 pub mod Demand3
 pub mod Strokes
@@ -13,3 +13,4 @@ pub mod Slits
 pub mod NewCells
 pub mod Choices
 pub mod Quits
+pub mod Chosen
