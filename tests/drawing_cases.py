@@ -5,8 +5,9 @@ with 1 if they are not what it would write; with `--count` it prints how many ca
 answer, how many accepted drawings had all, some or none of their cells unmarked, how many of the curves listed from both
 ends have a sample exactly on a half, how many neighbours of the accepted patches have had their cells compared, for how
 many drawings a wrong count of new cells is another number or a wrong drawing leaves another grid, for how many curves the
-test quit, walked, or would have quit but for another number, and to how many a wrong test would give another answer.  The
-forms of both are described in crates/drawing_cases/src.
+test quit, walked, or would have quit but for another number, to how many a wrong test would give another answer, how many
+chosen counts are three times the gap or less, and to how many calls a wrong choice would give another answer.  The forms of
+both are described in crates/drawing_cases/src.
 """
 
 import random
@@ -15,10 +16,12 @@ from collections import Counter
 from itertools import combinations, permutations, product
 
 from model import (
-    CHESSBOARD, HALVES_IN_BOTH_ROWS, K1_TO_K11, OVER, UNDER, WRONG_CHECKS, WRONG_WAYS, Answer, broken_laws, cells,
-    cells_with_halves_to_even, cells_with_halves_up, check_curve, check_refusal, curve, demand_3, distances_line, draw,
-    from_other_end, grid_of_points, list_curve, near_quitting, neighbour_distances, on_axis, patch, place, places, quits,
-    row, run, samples, told_apart, unmarked, with_other_choice, wrong_checks,
+    CHESSBOARD, HALVES_IN_BOTH_ROWS, K1_TO_K11, OF_THE_COUNT, OF_THE_DRAWING, OVER, SELDOM_WRONG, UNDER, WRONG_CHECKS,
+    WRONG_CHOSEN, WRONG_WAYS, Answer, Chosen, broken_chosen_laws, broken_laws, cells, cells_with_halves_to_even, cells_with_halves_up,
+    check_curve, check_refusal, choose_steps, chosen_count, chosen_told_apart, curve, demand_3, distances_line, draw,
+    draw_chosen, enough, from_other_end, grid_of_points, list_curve, near_quitting, neighbour_distances, on_axis, patch,
+    place, places, quits, refused_by, refuses_count, row, run, samples, told_apart, unmarked, with_chosen_count,
+    with_other_choice, wrong_checks, wrong_searches,
 )  # fmt: skip
 from stored import answer_record, case_record, malformed, store
 
@@ -43,6 +46,11 @@ def patch_checked(side, record, lent):
     return Answer(refusal, 0 if refusal is None else None, lent)
 
 
+def count_chosen(side, record, lent):
+    """The chosen step count of a curve."""
+    return Answer(*choose_steps(side, record), lent)
+
+
 def list_from_both_ends(side, record, lent):
     """A listing; once more from the other end it has the same refusal, or the same cells in reverse order."""
     there, back = (list_curve(side, end, lent) for end in (record, from_other_end(record)))
@@ -53,14 +61,19 @@ def list_from_both_ends(side, record, lent):
     return there
 
 
-CALLS = {"D": draw, "L": list_curve, "E": list_from_both_ends, "C": curve_checked, "P": draw, "Q": patch_checked}
-ON_PATCHES, DRAWINGS = "PQ", "DP"
+CALLS = {
+    "D": draw, "L": list_curve, "E": list_from_both_ends, "C": curve_checked, "P": draw, "Q": patch_checked,
+    "M": count_chosen, "W": draw_chosen,
+}  # fmt: skip
+ON_PATCHES, DRAWINGS, CHOOSING = "PQ", "DPW", "MW"
 
 
 def right_length(letter, side, n):
     """The bytes that a call asks for: a grid, a list or nothing."""
     listed = 3 * (n + 1)
-    return {"D": side**3, "L": listed, "E": min(listed, LONGEST_LIST), "C": 0, "P": side**3, "Q": 0}[letter]
+    if letter in "LE":
+        return listed if letter == "L" else min(listed, LONGEST_LIST)
+    return side**3 if letter in DRAWINGS else 0
 
 
 def halves(record):
@@ -91,6 +104,8 @@ class Cases:
         self.told = Counter()  # the accepted drawings, by the wrong ways that give another number or grid
         self.tested = Counter()  # the calls with a curve, by letter and whether the test quit, or would have
         self.checks_told = Counter()  # the calls with a curve, by the wrong checks that give another answer, and letter
+        self.chosen = Counter()  # the calls that choose a count, by letter and how it lies to three times the gap
+        self.chosen_told = Counter()  # the calls that choose a count, by the wrong ways that answer otherwise, and letter
 
     def add(self, letter, numbers, answer, kind, form="d"):
         """One case with its answer."""
@@ -127,9 +142,14 @@ class Cases:
         said = ("A", answer.count) if answer.refusal is None else ("R", answer.refusal)
         held = answer.new if drawn else 0, *holding(answer.lent)
         self.add(letter, numbers, (said[0], (said[1], *held)), f"{record.choice} {answer.refusal or 'accepted'}")
-        if letter not in ON_PATCHES:
+        if letter in CHOOSING:
+            self.count_choice(letter, side, record, lent, answer)
+        elif letter not in ON_PATCHES:
             self.count_test(letter, side, record, answer.refusal)
-        if letter in DRAWINGS:
+        if letter == "W":
+            assert not broken_chosen_laws(side, record, lent, answer), record
+            record = with_chosen_count(record) if drawn else record
+        elif letter in DRAWINGS:
             assert not broken_laws(side, record, lent, answer), record
         else:
             assert CALLS[letter](side, with_other_choice(record), lent) == answer, record
@@ -155,6 +175,18 @@ class Cases:
         for way, wrong in wrong_checks(side, record).items():
             if wrong != right if letter == "C" else refusal == 15 != wrong.refusal:
                 self.checks_told[way, letter] += 1
+
+    def count_choice(self, letter, side, record, lent, answer):
+        """How a chosen count lies to three times the gap; which wrong ways to choose it answer otherwise."""
+        if answer.refusal is None:
+            count, most = chosen_count(record.coordinates), enough(record.coordinates)
+            self.chosen[letter, "three times the gap, or 1" if count == most else "less"] += 1
+            apart = wrong_searches(record.coordinates)["the largest of the axes' own"] < count
+            self.chosen[letter, "above the count of each axis alone"] += apart
+            later = any(refuses_count(record.coordinates, n) for n in range(count, most))
+            self.chosen[letter, "a larger count refused again"] += later
+        ways = chosen_told_apart(side, record, *((lent, answer) if letter == "W" else ()))
+        self.chosen_told.update((way, letter) for way in ways)
 
     def all_calls(self, side, record):
         """A drawing into an unmarked grid, a listing into a list that holds bytes, and a check."""
@@ -751,10 +783,251 @@ def quitting(cases, dice):
         assert passed == 0 if way in SHORT_STEPS else passed >= 15, (way, cases.checks_told)
 
 
+OWN_COUNTS = 0, 1, 512, 513, LARGEST  # of records, not looked at where the count is chosen
+
+
+def chosen_samples(cases):
+    """The documents' curves on each axis, with every n of their own; and counts refused again above the chosen one."""
+    for axis, (points, expected) in product(range(3), (((0, 0, 0, 6), 17), ((5, 5, 5, 5), 1), ((0, 0, 3, 0), 1))):
+        record = curve(on_axis(axis, points), 0, 0)
+        assert cases.call("M", 8, record).count == expected
+        for n in range(1, enough(record.coordinates) + 1):
+            refusal = cases.call("C", 8, record._replace(counts=(n,))).refusal
+            assert n > expected or refusal == (None if n == expected else 15)
+            assert points != (0, 0, 3, 0) or (refusal == 15) == (2 <= n <= 6)
+    for axis, (_, points, n, _, _) in product(range(3), K1_TO_K11):
+        record = curve(on_axis(axis, points), n, MARK)
+        assert cases.call("M", 8, record).count == chosen_count(record.coordinates)
+        cases.fill(512)
+        cases.call("W", 8, record)
+        cases.show(0, 8**axis)
+    for own, choice, points in product(OWN_COUNTS, CHOICES, ((0, 0, 0, 6), (5, 5, 5, 5), (0, 1, 2, 3), (0, 3, 3, 0))):
+        record = curve(on_axis(own % 3, points), own, MARK, choice)
+        cases.fill(512, 0, 128)
+        assert cases.call("W", 8, record).count == 1 + cases.call("M", 8, record).count
+
+
+def chosen_of_one_axis(cases):
+    """The count of every curve of one axis with coordinates 0 to 6, on each axis in turn, and every seventh drawn."""
+    for k, points in enumerate(product(range(7), repeat=4)):
+        others = k // 3 % 7, k // 21 % 7
+        coordinates = [(c, *others)[(a - k) % 3] for c in points for a in range(3)]
+        record = curve(coordinates, OWN_COUNTS[k % 5], k % 256, CHOICES[k % 2])
+        cases.call("M", 7, record)
+        if k % 7 == 0:
+            if k % 49 == 0:
+                cases.fill(343, k // 49 % 4 * 64, k // 49 % 3 * 64)
+            cases.call("W", 7, record._replace(mark=1 + k % 255))
+
+
+def chosen_ends(cases):
+    """The largest counts and gaps, lines, which need three times the gap, and the ends of sides and lengths."""
+    largest = (
+        ((0, 63, 63, 63), 188), ((63, 63, 63, 0), 188), ((63, 0, 0, 0), 188), ((0, 0, 0, 63), 188), ((0, 21, 42, 63), 63),
+        ((63, 42, 21, 0), 63), ((0, 63, 0, 63), 187), ((0, 0, 63, 63), 95), ((0, 63, 63, 0), 1), ((31, 0, 63, 31), 1),
+    )  # fmt: skip
+    for axis in range(3):
+        cases.fill(BUFFER, 0, 64)
+        for k, (points, expected) in enumerate(largest):
+            coordinates = [c if a == axis else 31 for c in points for a in range(3)]
+            record = curve(coordinates, 512, MARK, CHOICES[axis % 2])
+            assert cases.call("M", 64, record).count == expected
+            assert cases.call("C", 64, record._replace(counts=(expected,))).refusal is None
+            assert expected == 1 or cases.call("C", 64, record._replace(counts=(expected - 1,))).refusal == 15
+            if k % 4 == 0:
+                cases.call("W", 64, record)
+    for gap, axis, way in product(range(1, 22), range(3), (1, -1)):
+        record = curve(on_axis(axis, (0, gap, 2 * gap, 3 * gap)[::way]), 1, MARK)
+        assert cases.call("M", 3 * gap + 1, record).count == 3 * gap
+    for side, coordinate in product((2, 3, 8, 63, 64), (0, 1)):
+        record = curve([coordinate * (side - 1)] * 12, LARGEST, MARK)
+        assert cases.call("M", side, record).count == 1
+    for side in 2, 3, 8, 40, 63, 64:
+        cases.fill(BUFFER, 3, 7)
+        for length in 0, 1, side**2, (side - 1) ** 3, side**3 - 1, side**3, side**3 + 1, (side + 1) ** 3:
+            if length <= BUFFER:
+                cases.call("W", side, curve([1, 0, 1] * 2 + [0, 1, 1] * 2, 0, MARK), length)
+    for side, k in product((2, 8, 64), range(12)):
+        if side < 64:
+            cases.fill(side**3)
+        for c in side - 1, side, 255:
+            record = curve([c if k == position else 0 for position in range(12)], 1, k, CHOICES[k % 2])
+            assert cases.call("M", side, record).refusal == (14 if c >= side else None)
+            if side < 64:
+                cases.call("W", side, record._replace(mark=1 + k))
+    for mark, own in product((0, 1, 255), OWN_COUNTS):
+        cases.fill(8, 255, 255)
+        assert cases.call("M", 2, curve([1] * 12, own, mark)).count == 1
+        assert cases.call("W", 2, curve([1] * 12, own, mark)).refusal == (None if mark else 12)
+
+
+CHOSEN_ORDERS = {"M": (11, 14), "W": (11, 21, 12, 14)}
+CHOSEN_FAULTS = {
+    11: ({"side": 65}, {"side": 1}, {"side": 0}, {"side": LARGEST}),
+    21: ({"length": 511}, {"length": 513}, {"length": 0}, {"length": 1}),
+    12: ({"mark": 0},) * 4,
+    14: ({"z": 8}, {"z": 255}, {"x": 8}, {"x": 255}),
+}
+
+
+def chosen_with_faults(cases, letter, own, choice, numbers, way):
+    """A call that chooses a count, with the faults of some numbers, given in their order: the first is answered."""
+    length = 512 if letter == "W" else 0
+    call = {"side": 8, "n": own, "mark": MARK, "choice": choice, "x": 7, "z": 0, "length": length}
+    for number in numbers:
+        call.update(CHOSEN_FAULTS[number][way])
+    answer = cases.call(letter, call["side"], faulty_curve(call), call["length"])
+    assert answer.refusal == next(iter(numbers), None)
+
+
+def chosen_refusals(cases):
+    """Each call with any of its faults, and every two of them with any n of its own; grids that fit another side."""
+    cases.fill(BUFFER, 1, 1)
+    for letter, order in CHOSEN_ORDERS.items():
+        for size, way in product(range(len(order) + 1), range(4)):
+            for k, numbers in enumerate(combinations(order, size)):
+                chosen_with_faults(cases, letter, OWN_COUNTS[(k + way) % 5], CHOICES[way % 2], numbers, way)
+        for numbers, own, choice in product(combinations(order, 2), OWN_COUNTS, CHOICES):
+            chosen_with_faults(cases, letter, own, choice, numbers, 1)
+    for side, length in (0, 0), (1, 1), (1, 0):
+        for mark in MARK, 0:
+            assert cases.call("W", side, curve([0] * 12, 1, mark), length).refusal == 11
+    # At side 7 with a grid of side 8, and the other way round, the coordinate 7 tells which side 14 goes by.
+    for side, length, mark, refusal in (7, 343, MARK, 14), (7, 512, MARK, 21), (7, 343, 0, 12), (8, 512, MARK, None):
+        assert cases.call("W", side, curve([7] * 12, 3, mark), length).refusal == refusal
+
+
+def chosen_by_axes(cases):
+    """Counts that one axis decides, or two: an axis that accepts its own smallest count may refuse the others'."""
+    for axes, shape in product(permutations((1, 3, 5)), (lone_gap, steady_gaps)):
+        points = tuple(c for point in zip(*(shape(k, gap) for k, gap in enumerate(axes))) for c in point)
+        widest = axes.index(5)
+        assert cases.call("M", 16, curve(points, 1, MARK)).count == next(
+            n for n in range(1, 16) if not refused_by(points, n, axes=(widest,))
+        )
+    returning = (0, 0, 3, 0), (0, 3, 3, 0), (0, 6, 0, 0), (2, 6, 0, 2), (6, 0, 6, 5), (3, 0, 6, 3)
+    rising = (0, 1, 1, 2), (0, 1, 2, 3), (4, 3, 1, 0), (0, 2, 3, 5), (6, 4, 2, 0), (3, 3, 3, 3)
+    for k, (back, up, down) in enumerate(product(returning, rising, (rising[1], rising[4], rising[5], returning[4]))):
+        lines = [(back, up, down)[(a + k) % 3] for a in range(3)]
+        points = [c for point in zip(*lines) for c in point]
+        record = curve(points, OWN_COUNTS[k % 5], MARK, CHOICES[k % 2])
+        cases.call("M", 7, record)
+        if k % 2:
+            cases.fill(343, 0, 64)
+            cases.call("W", 7, record)
+
+
+# Points of one axis that accept 2 steps and refuse more: up to 3, 5, 8 and, for the last, many.
+REFUSED_AGAIN = (1, 0, 4, 2), (2, 0, 5, 3), (1, 4, 0, 1), (2, 0, 6, 3), (2, 0, 6, 2), (3, 6, 0, 4), (31, 0, 62, 31)
+# Points of one axis that lie 2 apart at the ends, with the smallest count that they accept.
+FROM_2_ON = {(0, 0, 1, 2): 3, (3, 2, 0, 1): 4, (0, 0, 0, 2): 5, (2, 5, 0, 0): 6, (0, 3, 0, 2): 7, (0, 3, 1, 2): 8}
+
+
+def chosen_left_behind(cases):
+    """One axis accepts 2 steps, the distance of the ends, and refuses the count that another comes to."""
+    pairs = permutations(range(3), 2)
+    for k, ((one, other), again, late) in enumerate(product(pairs, REFUSED_AGAIN, FROM_2_ON)):
+        axes = [(0, 0, 2, 2) if k % 2 else [k % 3] * 4] * 3
+        axes[one], axes[other] = again, late
+        points = tuple(c for point in zip(*axes) for c in point)
+        assert not refused_by(points, 2, axes=(one,)) and refused_by(points, 3, axes=(one,))
+        assert chosen_count(tuple(on_axis(0, late))) == FROM_2_ON[late]
+        record = curve(points, OWN_COUNTS[k % 5], MARK, CHOICES[k % 2])
+        side = 1 + max(points)
+        cases.call("M", side, record)
+        if side < 9 and k % 5 == 0:
+            cases.fill(side**3, 0, 64)
+            cases.call("W", side, record)
+
+
+def random_points(dice, side):
+    """Points in a box of the cube: free, in a line, or back to where they began on some axis."""
+    spread = dice.randrange(side)
+    axes = []
+    for _ in range(3):
+        low, kind = dice.randrange(side - spread), dice.randrange(6)
+        controls = [dice.randrange(spread + 1) for _ in range(4)]
+        if kind == 0:
+            controls = [spread * k // 3 for k in range(4)][:: dice.choice((1, -1))]
+        if kind == 1:
+            controls[3] = controls[0]
+        if kind == 2:
+            controls = [controls[0]] * 4
+        axes.append([low + c for c in controls])
+    return [c for point in zip(*axes) for c in point]
+
+
+def random_chosen(cases, dice):
+    """At every side: counts, and drawings in turn into empty, partly marked and any grids, some with a fault.
+
+    Some drawings are made once more with the chosen count as the record's own, from the same bytes.
+    """
+    for group in range(2 * 63):
+        side, step = 2 + group % 63, dice.choice((16, 32, 64, 128))
+        fillings = (0, 0), (step * dice.randrange(256), step), (dice.randrange(256), dice.randrange(256))
+        filling = side**3, *fillings[group % 3]
+        cases.fill(*filling)
+        for k, letter in enumerate("WMWMWMM"):
+            points, own = random_points(dice, side), dice.choice((*OWN_COUNTS, dice.randrange(1, 200)))
+            mark, called, fault = dice.randrange(1, 256), side, dice.randrange(24)
+            length = side**3 if letter == "W" else 0
+            if fault == 0:
+                called = dice.choice((0, 1, 65, 256, LARGEST, side + 1, side - 1))
+            if fault == 1:
+                points[dice.randrange(12)] = dice.choice((side, 255, dice.randrange(side, 256)))
+            if fault == 2:
+                mark = 0
+            if fault == 3 and letter == "W":
+                length = dice.choice((length - 1, min(length + 1, BUFFER), dice.randrange(length)))
+            record = curve(points, own, mark, dice.choice(CHOICES))
+            answer = cases.call(letter, called, record, length)
+            if k == 0 and answer.refusal is None:
+                cases.fill(*filling)
+                assert cases.call("D", called, with_chosen_count(record)) == answer
+        cases.show(dice.randrange(side**3))
+
+
+def mixed_with_chosen(cases, dice):
+    """Lists of drawings with chosen counts among others, from empty and partly marked cubes: demand 3."""
+    for side, first, step in (3, 0, 0), (6, 0, 128), (11, 0, 32), (18, 0, 0):
+        cases.fill(side**3, first, step)
+        start, calls = bytes(cases.buffer[: side**3]), []
+        for letter in "WDWPWW":
+            if letter == "W":
+                record = curve(random_points(dice, side), dice.choice(OWN_COUNTS), dice.randrange(1, 256), dice.choice(CHOICES))
+                calls.append((side, Chosen(record)))
+            else:
+                points, counts, mark, choice = random_record(dice, letter, side)
+                record = (patch if letter in ON_PATCHES else curve)(points, *counts, mark, choice)
+                calls.append((side, record))
+            cases.call(letter, side, record)
+        grids = run(calls, start)
+        assert grids[-1] == cases.buffer[: side**3] and demand_3(calls, grids)
+
+
+def choosing(cases, dice):
+    """Chosen counts, alone and drawn with; enough of each was met."""
+    for part in (
+        chosen_samples, chosen_of_one_axis, chosen_ends, chosen_refusals, chosen_by_axes, chosen_left_behind,
+    ):  # fmt: skip
+        part(cases)
+    random_chosen(cases, dice)
+    mixed_with_chosen(cases, dice)
+    for letter in CHOOSING:
+        for number in CHOSEN_ORDERS[letter]:
+            assert sum(cases.answered[letter, f"{choice} {number}"] for choice in CHOICES) >= 20, cases.answered
+        assert all(cases.chosen[kind] >= 20 for kind in product(letter, {end for _, end in cases.chosen})), cases.chosen
+        others = OF_THE_DRAWING if letter == "M" else OF_THE_COUNT
+        for way in WRONG_CHOSEN:
+            if way not in others:
+                least = 3 if way in SELDOM_WRONG and letter == "W" else 15
+                assert cases.chosen_told[way, letter] >= least, (way, letter, cases.chosen_told)
+
+
 def no_cases(cases):
     """Records that are no case, of another form or lent more than there is; and bytes shown past the buffer's end."""
     first = cases.records[0][0]
-    longer = [case_record(letter, (2, 1, MARK, BUFFER + 1), NUMBERS) for letter in "FDLP"]
+    longer = [case_record(letter, (2, 1, MARK, BUFFER + 1), NUMBERS) for letter in "FDLPW"]
     longer.append(case_record("E", (2, 1, MARK, LONGEST_LIST + 1), NUMBERS))
     for case in *malformed(first), first[:-1] + " ", *longer:
         cases.records.append((case, answer_record("B", (), "d", ANSWERS)))
@@ -780,6 +1053,7 @@ def main():
         part(cases)
     mixed_lists(cases, random.Random(4))
     quitting(cases, random.Random(5))
+    choosing(cases, random.Random(6))
     no_cases(cases)
     assert all(distance <= 1 for _, distance in cases.distances), cases.distances
     kinds = product(DRAWINGS, CHOICES, ("all", "some", "none"))
@@ -804,6 +1078,11 @@ def main():
         for way in WRONG_CHECKS:
             checks, passed = cases.checks_told[way, "C"], sum(cases.checks_told[way, letter] for letter in "DLE")
             print(f"checked wrongly, {way}: another answer to {checks} checks, and to {passed} drawings and listings")
+        for (letter, kind), count in sorted(cases.chosen.items()):
+            print(f"{letter} accepted, the chosen count: {kind}", count)
+        for way in WRONG_CHOSEN:
+            counts, drawings = (cases.chosen_told[way, letter] for letter in CHOOSING)
+            print(f"chosen wrongly, {way}: another answer to {counts} counts and to {drawings} drawings")
         print(len(cases.records), "records")
         return 0
     return store("drawing_cases", cases.records)

@@ -3,7 +3,7 @@
 Whole numbers and fractions are exact throughout; there are no differences and no remainders here.  Imported, the module
 gives the expected answers of test programs.  Run as `python3 tests/model.py`, it checks itself on the documents' samples
 and exits with 1 if a check fails.  Quoted words are document 01's, for demand 3 also the demand's own, and for cells of
-samples, neighbours, hues, totals, new cells, choices and the test that quits document 02's.
+samples, neighbours, hues, totals, new cells, choices, the test that quits and chosen counts document 02's.
 """
 
 import random
@@ -14,9 +14,9 @@ from collections import Counter
 from fractions import Fraction
 from functools import lru_cache, wraps
 from io import BytesIO
-from itertools import product
+from itertools import count, product
 from math import ceil, floor, prod
-from operator import le, lt
+from operator import ge, gt, le, lt
 from typing import NamedTuple, Optional, Tuple
 
 # The colour cube
@@ -291,6 +291,91 @@ def check_curve(side, record):
     """
     refusal = check_refusal(side, record)
     return CheckAnswer(refusal, quits(record) if refusal is None else None)
+
+
+# The step count that the box chooses
+
+
+@lru_cache(maxsize=1 << 10)
+def all_weights(n):
+    """The Bernstein weights of every sample of a curve of n steps."""
+    return [bernstein(n, i) for i in range(n + 1)]
+
+
+@lru_cache(maxsize=1 << 14)
+def values_along(controls, n):
+    """One axis of every sample of a curve of n steps, exactly, times n³."""
+    g0, g1, g2, g3 = controls
+    return [w0 * g0 + w1 * g1 + w2 * g2 + w3 * g3 for w0, w1, w2, w3 in all_weights(n)]
+
+
+def steps_along(controls, n):
+    """How far every two neighbouring samples lie apart on one axis, exactly, times n³."""
+    along = values_along(controls, n)
+    return [abs(there - here) for here, there in zip(along, along[1:])]
+
+
+def refuses_count(coordinates, n):
+    """Whether the curve rule refuses n steps: some two neighbours "lie more than one cell apart on an axis"."""
+    return any(step > n**3 for axis in range(3) for step in steps_along(coordinates[axis::3], n))
+
+
+def enough(coordinates):
+    """What "is always enough": "three times the largest gap on an axis, or 1 if all points agree"."""
+    return max(1, *(3 * largest_gap(coordinates[axis::3]) for axis in range(3)))
+
+
+@lru_cache(maxsize=1 << 12)
+def chosen_count(coordinates):
+    """The chosen count: "the smallest step count that the curve rule accepts", each from 1 on tried in turn."""
+    chosen = next(n for n in count(1) if not refuses_count(coordinates, n))
+    assert chosen <= enough(coordinates), coordinates
+    return chosen
+
+
+def with_chosen_count(record):
+    """A curve record with the chosen count in place of its n."""
+    return record._replace(counts=(chosen_count(record.coordinates),))
+
+
+class CountAnswer(NamedTuple):
+    """The refusal number or None, and the chosen count if accepted."""
+
+    refusal: Optional[int]
+    steps: Optional[int]
+
+
+def choose_steps(side, record):
+    """The chosen count for "four points and a side"; the order is "the count alone 11, then 14"."""
+    refusal = first_refusal(
+        (11, lambda: not 2 <= side <= 64),
+        (14, lambda: max(record.coordinates) >= side),
+    )
+    if refusal is not None:
+        return CountAnswer(refusal, None)
+    chosen = chosen_count(record.coordinates)
+    assert chosen <= 189, record  # "hence never above 189"
+    return CountAnswer(None, chosen)
+
+
+def chosen_refusal(side, record, grid_length):
+    """The order "that draw call 11, 21, 12, 14", which "drops 13 and 15, as neither can occur there"."""
+    return first_refusal(
+        (11, lambda: not 2 <= side <= 64),
+        (21, lambda: grid_length != side**3),
+        (12, lambda: not 1 <= record.mark <= 255),
+        (14, lambda: max(record.coordinates) >= side),
+    )
+
+
+def draw_chosen(side, record, grid):
+    """The draw call "with a chosen count", which "takes a curve record and ignores its n"."""
+    refusal = chosen_refusal(side, record, len(grid))
+    if refusal is not None:
+        return DrawAnswer(refusal, None, None, bytes(grid))
+    answer = draw(side, with_chosen_count(record), grid)
+    assert answer.refusal is None, record
+    return answer
 
 
 # Swatches: an f32 is its 32-bit pattern
@@ -593,11 +678,33 @@ def marked_cells(answer):
 # Demand 3, for a list of calls (side, record) and the grids before the first call and after each call
 
 
+class Chosen(NamedTuple):
+    """In a list of calls, in place of a record: the draw call with a chosen count of this one."""
+
+    record: Record
+
+
+def drawn_by(side, called, grid):
+    """What a call of the list answers."""
+    return draw_chosen(side, called.record, grid) if isinstance(called, Chosen) else draw(side, called, grid)
+
+
+def accepted_object(side, called, grid_length):
+    """The object of a call of the list if "no number in its own call's drawing order applies".
+
+    With a chosen count "its count is the chosen one".
+    """
+    if isinstance(called, Chosen):
+        accepted = chosen_refusal(side, called.record, grid_length) is None
+        return with_chosen_count(called.record) if accepted else None
+    return called if drawing_refusal(side, called, grid_length) is None else None
+
+
 def run(calls, grid):
     """The start grid and the grid after each call: "each call gets the grid as the last one left it"."""
     grids = [bytes(grid)]
-    for side, record in calls:
-        grids.append(draw(side, record, grids[-1]).lent)
+    for side, called in calls:
+        grids.append(drawn_by(side, called, grids[-1]).lent)
     return grids
 
 
@@ -658,8 +765,9 @@ def marks_explained(calls, start, end):
     """Whether each cell holds its start byte or the mark of an accepted object with a sample within half of it."""
     explained = {
         (at, record.mark)
-        for side, record in calls
-        if drawing_refusal(side, record, len(start)) is None
+        for side, called in calls
+        for record in [accepted_object(side, called, len(start))]
+        if record is not None
         for at in places_near_samples(side, record)
     }
     return all(old == new or (at, new) in explained for at, (old, new) in enumerate(zip(start, end, strict=True)))
@@ -667,8 +775,9 @@ def marks_explained(calls, start, end):
 
 def demand_3(calls, grids, cells_of=cells):
     """All of demand 3 for these calls and grids (`run` gives the model's own), by the cells of `cells_of`."""
-    for (side, record), before, after in zip(calls, grids[:-1], grids[1:], strict=True):
-        if drawing_refusal(side, record, len(before)) is None:
+    for (side, called), before, after in zip(calls, grids[:-1], grids[1:], strict=True):
+        record = accepted_object(side, called, len(before))
+        if record is not None:
             found = cells_of(record)
             if not (
                 samples_within_half(record, found)
@@ -888,6 +997,202 @@ def wrong_checks(side, record):
     if quits(record):
         found["before 11, 13 and 14"] = quit_so
     return found
+
+
+def ends_apart(coordinates):
+    """The largest distance on an axis from point 0 to point 3."""
+    return max(abs(coordinates[axis] - coordinates[9 + axis]) for axis in range(3))
+
+
+def at_least_ends(coordinates):
+    """A count below which all are refused: the distance of the ends, or 1."""
+    return max(1, ends_apart(coordinates))
+
+
+def gap_on_some_axis(coordinates):
+    """The largest gap of all axes."""
+    return max(largest_gap(coordinates[axis::3]) for axis in range(3))
+
+
+def refused_by(coordinates, n, axes=(0, 1, 2), of_axes=any, looked_at=list, long=gt):
+    """The curve rule for n steps, some part of it exchanged."""
+    return of_axes(
+        any(long(step, n**3) for step in looked_at(steps_along(coordinates[axis::3], n))) for axis in axes
+    )
+
+
+def cells_apart(coordinates, n):
+    """Whether the cells of some two neighbours, in place of their values, are more than one apart on an axis."""
+    scaled = 2 * n**3
+    for axis in range(3):
+        along = [-((n**3 - 2 * blended) // scaled) for blended in values_along(coordinates[axis::3], n)]
+        if any(abs(there - here) > 1 for here, there in zip(along, along[1:])):
+            return True
+    return False
+
+
+def up_from(coordinates, first, refuses=refuses_count):
+    """The first count from some count on that a rule accepts."""
+    return next(n for n in count(first) if not refuses(coordinates, n))
+
+
+def down_to_a_refusal(coordinates):
+    """From three times the gap down, as long as the count below is accepted."""
+    return next(n for n in range(enough(coordinates), 0, -1) if n == 1 or refuses_count(coordinates, n - 1))
+
+
+def by_halves(coordinates):
+    """A search that halves what is left, as if all counts above an accepted one were accepted."""
+    low, high = 1, enough(coordinates)
+    while low < high:
+        middle = (low + high) // 2
+        low, high = (middle + 1, high) if refuses_count(coordinates, middle) else (low, middle)
+    return low
+
+
+def up_in_turn(coordinates, first, done):
+    """x goes up to a count that it accepts, y goes on from there, then z, and again from there until it is done."""
+    while True:
+        came_to = []
+        for axis in range(3):
+            first = up_from(coordinates, first, lambda c, n: refused_by(c, n, axes=(axis,)))
+            came_to.append(first)
+        if done(*came_to):
+            return first
+
+
+WRONG_STEPS = {  # how a program may mistake the curve rule
+    "x left out": {"axes": (1, 2)},
+    "y left out": {"axes": (0, 2)},
+    "z left out": {"axes": (0, 1)},
+    "one axis is enough": {"of_axes": all},
+    "the last of several steps left out": {"looked_at": lambda steps: steps[:-1] or steps},
+    "the first of several steps left out": {"looked_at": lambda steps: steps[1:] or steps},
+    "the first and the last step alone": {"looked_at": lambda steps: steps[:1] + steps[-1:]},
+    "exactly one cell apart refused": {"long": ge},
+}
+WRONG_SEARCHES = {  # by the points, which count a program may choose
+    **{
+        way: lambda c, parts=parts: up_from(c, 1, lambda c, n: refused_by(c, n, **parts))
+        for way, parts in WRONG_STEPS.items()
+    },
+    "cells for values": lambda c: up_from(c, 1, cells_apart),
+    "up from 2": lambda c: up_from(c, 2),
+    "up from the largest gap": lambda c: up_from(c, max(1, gap_on_some_axis(c))),
+    "up from one above the distance of the ends": lambda c: up_from(c, 1 + ends_apart(c)),
+    "the distance of the ends unexamined": lambda c: at_least_ends(c),
+    "three gaps unexamined": enough,
+    "three gaps less one unexamined": lambda c: min(chosen_count(c), max(1, enough(c) - 1)),
+    "0 if all points agree": lambda c: chosen_count(c) if gap_on_some_axis(c) else 0,
+    "down from three gaps to a refusal": down_to_a_refusal,
+    "by halves": by_halves,
+    "the largest of the axes' own": lambda c: max(
+        up_from(c, 1, lambda c, n: refused_by(c, n, axes=(axis,))) for axis in range(3)
+    ),
+    "each axis once, in turn": lambda c: up_in_turn(c, 1, lambda x, y, z: True),
+    "each axis once, from the distance of the ends": lambda c: up_in_turn(c, at_least_ends(c), lambda x, y, z: True),
+    "each axis again only if z moved": lambda c: up_in_turn(c, at_least_ends(c), lambda x, y, z: y == z),
+    "each axis again only if y moved": lambda c: up_in_turn(c, at_least_ends(c), lambda x, y, z: x == y),
+}
+SELDOM_WRONG = [way for way in WRONG_SEARCHES if way.startswith("each axis")]  # where an axis refuses a count again
+WRONG_OWN = {  # by the points and the record's n, which count a program may choose
+    "the record's n": lambda c, n: n,
+    "the record's n if accepted": lambda c, n: n if 1 <= n <= 512 and not refuses_count(c, n) else chosen_count(c),
+    "up from the record's n": lambda c, n: up_from(c, n) if 1 <= n <= 512 else chosen_count(c),
+}
+WRONG_ORDERS = {  # of refusals; those of the count alone are those of its numbers in such an order
+    "13 for the record's n": (11, 21, 12, 13, 14),
+    "15 for the record's n": (11, 21, 12, 14, 15),
+    "21 before 11": (21, 11, 12, 14),
+    "12 before 11": (12, 11, 21, 14),
+    "12 before 21": (11, 12, 21, 14),
+    "14 before 11": (14, 11, 21, 12),
+    "14 before 21": (11, 14, 21, 12),
+    "14 before 12": (11, 21, 14, 12),
+    "11 left out": (21, 12, 14),
+    "21 left out": (11, 12, 14),
+    "12 left out": (11, 21, 14),
+    "14 left out": (11, 21, 12),
+}
+WRONG_CHOICES = {"always over": (OVER, OVER), "always under": (UNDER, UNDER), "over and under exchanged": (UNDER, OVER)}
+OF_THE_DRAWING = [*(way for way in WRONG_ORDERS if "12" in way or "21" in way), *WRONG_CHOICES]
+OF_THE_COUNT = ["12 of the count alone"]
+WRONG_CHOSEN = [*WRONG_SEARCHES, *WRONG_OWN, *WRONG_ORDERS, *OF_THE_COUNT, *WRONG_CHOICES]
+
+
+@lru_cache(maxsize=1 << 10)
+def wrong_searches(coordinates):
+    """The count that each wrong search chooses."""
+    return {way: search(coordinates) for way, search in WRONG_SEARCHES.items()}
+
+
+def wrong_counts_chosen(side, record, grid_length=None):
+    """The refusal and the count that each wrong way has for a drawing with a chosen count, or for the count alone.
+
+    A grid's length is given for a drawing.
+    """
+    (n,) = record.counts
+    coordinates, alone = record.coordinates, grid_length is None
+    applies = {
+        11: lambda: not 2 <= side <= 64,
+        21: lambda: grid_length != side**3,
+        12: lambda: record.mark == 0,
+        13: lambda: not 1 <= n <= 512,
+        14: lambda: max(coordinates) >= side,
+        15: lambda: 1 <= n <= 512 and refuses_count(coordinates, n),
+    }
+
+    def answered(order):
+        refusal = first_refusal(*((number, applies[number]) for number in order))
+        return (refusal, None) if refusal else (None, chosen_count(coordinates))
+
+    right = answered((11, 14) if alone else (11, 21, 12, 14))
+    found = dict.fromkeys(WRONG_CHOSEN, right)
+    for way, order in WRONG_ORDERS.items():
+        found[way] = answered([number for number in order if not (alone and number in (21, 12))])
+    if alone:
+        found["12 of the count alone"] = answered((11, 12, 14))
+    if right[0] is None:
+        found.update({way: (None, chosen) for way, chosen in wrong_searches(coordinates).items()})
+        found.update({way: (None, chosen(coordinates, n)) for way, chosen in WRONG_OWN.items()})
+    return found
+
+
+def chosen_told_apart(side, record, grid=None, answer=None):
+    """The wrong ways that answer otherwise than the count alone or, if grid and answer are given, than the drawing.
+
+    As many samples are another number where the count is another.
+    """
+    if grid is None:
+        right = choose_steps(side, record)
+        yield from (way for way, wrong in wrong_counts_chosen(side, record).items() if wrong != right)
+        return
+    right = answer.refusal, None if answer.count is None else answer.count - 1
+    yield from (way for way, wrong in wrong_counts_chosen(side, record, len(grid)).items() if wrong != right)
+    if answer.refusal is None:
+        chosen = with_chosen_count(record)
+        for way, becomes in WRONG_CHOICES.items():
+            choice = becomes[record.choice == UNDER]
+            if choice != record.choice and draw(side, chosen._replace(choice=choice), grid) != answer:
+                yield way
+
+
+def broken_chosen_laws(side, record, grid, answer):
+    """What does not hold of the answer of a drawing with a chosen count."""
+    if answer.refusal is None:
+        chosen = with_chosen_count(record)
+        smaller = [check_refusal(side, record._replace(counts=(n,))) for n in range(1, chosen.counts[0])]
+        laws = {
+            "that of a drawing with the chosen count": draw(side, chosen, grid) == answer,
+            "the chosen count is accepted": check_refusal(side, chosen) is None,
+            "no smaller one is": {*smaller} <= {15},
+        }
+        return [law for law, holds in laws.items() if not holds] + broken_laws(side, chosen, grid, answer)
+    laws = {
+        "a refusal ignores the choice": draw_chosen(side, with_other_choice(record), grid) == answer,
+        "a refused call leaves the grid": answer.lent == grid,
+    }
+    return [law for law, holds in laws.items() if not holds]
 
 
 def broken_laws(side, record, grid, answer):
@@ -1593,6 +1898,140 @@ def check_quitting(checks):
     checks.equal(group, f"wrong rules told apart by 15 curves or more: {told}", few, {})
 
 
+def check_chosen(checks):
+    """Chosen counts by name, of all small curves of one axis and at random, and the draw call; wrong ways told apart."""
+    group = "chosen counts"
+    k_counts = {"K1": 3, "K2": 3, "K3": 3, "K4": 3, "K5": 1, "K6": 5, "K7": 17, "K8": 17, "K9": 1, "K10": 1, "K11": 1}
+    for axis in range(3):
+        for name, points, n, _, _ in K1_TO_K11:
+            record = curve(on_axis(axis, points), n, 9)
+            expected = k_counts[name.split(",")[0]]
+            checks.equal(group, f"{name}, axis {axis}", choose_steps(8, record), CountAnswer(None, expected))
+        for points, expected in (
+            ((0, 0, 0, 6), 17), ((6, 0, 0, 0), 17), ((5, 5, 5, 5), 1), ((0, 0, 3, 0), 1), ((0, 0, 0, 1), 1),
+            ((0, 21, 42, 63), 63), ((63, 42, 21, 0), 63), ((0, 63, 63, 63), 188), ((63, 63, 63, 0), 188),
+        ):  # fmt: skip
+            found = choose_steps(64, curve(on_axis(axis, points), 0, 0))
+            checks.equal(group, f"{points}, axis {axis}", found, CountAnswer(None, expected))
+    accepted = [n for n in range(1, 10) if not refuses_count(tuple(on_axis(0, (0, 0, 3, 0))), n)]
+    checks.equal(group, "0 0 3 0, the accepted counts", accepted, [1, 7, 8, 9])
+    # A step is linear in the points, so its largest size with coordinates up to 63 is that of a curve of 0 and 63.
+    corners = [tuple(on_axis(0, points)) for points in product((0, 63), repeat=4)]
+    checks.equal(group, "188 steps, side 64", any(refuses_count(points, 188) for points in corners), False)
+    largest = Counter()
+    for points in product(range(7), repeat=4):
+        coordinates = tuple(on_axis(0, points))
+        rule = [steps_too_long(curve(coordinates, n, 0)) for n in range(1, enough(coordinates) + 1)]
+        counts = [refuses_count(coordinates, n) for n in range(1, enough(coordinates) + 1)]
+        checks.equal(group, f"the curve rule, {points}", counts, rule)
+        checks.equal(group, f"the first accepted, {points}", rule.index(False) + 1, chosen_count(coordinates))
+        largest["three gaps" if chosen_count(coordinates) == enough(coordinates) else "less"] += 1
+        largest["refused again"] += True in rule[rule.index(False) :]
+    checks.equal(group, f"each kind 100 times or more: {largest}", min(largest.values()) >= 100, True)
+    for way, points, right, wrong in (
+        ("up from 2", (5, 5, 5, 5), 1, 2),
+        ("up from 2", (0, 0, 3, 0), 1, 7),
+        ("up from the largest gap", (0, 0, 3, 0), 1, 7),
+        ("up from one above the distance of the ends", (0, 1, 2, 3), 3, 4),
+        ("the distance of the ends unexamined", (0, 0, 0, 6), 17, 6),
+        ("three gaps unexamined", (0, 0, 0, 6), 17, 18),
+        ("three gaps less one unexamined", (0, 1, 2, 3), 3, 2),
+        ("0 if all points agree", (5, 5, 5, 5), 1, 0),
+        ("down from three gaps to a refusal", (0, 3, 3, 0), 1, 8),
+        ("by halves", (0, 0, 3, 0), 1, 7),
+        ("one axis is enough", (0, 1, 2, 3), 3, 1),
+        ("the last of several steps left out", (0, 0, 0, 6), 17, 2),
+        ("the first of several steps left out", (6, 0, 0, 0), 17, 2),
+        ("the first and the last step alone", (0, 0, 6, 6), 9, 4),
+        ("exactly one cell apart refused", (0, 1, 2, 3), 3, 4),
+        ("cells for values", (0, 0, 0, 6), 17, 13),
+    ):
+        coordinates = tuple(on_axis(2, points))
+        found = chosen_count(coordinates), wrong_searches(coordinates)[way]
+        checks.equal(group, f"{way}, {points}", found, (right, wrong))
+    back, back_at_2, line_of_3, curve_of_2 = (0, 0, 3, 0), (2, 0, 6, 2), (0, 1, 2, 3), (0, 0, 0, 2)
+    for axes, right, ways in (
+        # x alone accepts 1, y alone 3, which x refuses; both accept 7.
+        ((back, line_of_3, [5] * 4), 7, {
+            "x left out": 3, "y left out": 1, "z left out": 7, "the largest of the axes' own": 3,
+            "each axis once, in turn": 3, "each axis once, from the distance of the ends": 7,
+        }),
+        # The first accepts 2, the second 5 and no less, which the first refuses; both accept 9.
+        ((back_at_2, curve_of_2, [5] * 4), 9, {
+            "the largest of the axes' own": 5, "each axis once, from the distance of the ends": 5,
+            "each axis again only if z moved": 5, "each axis again only if y moved": 9,
+        }),
+        ((back_at_2, [5] * 4, curve_of_2), 9, {
+            "each axis once, from the distance of the ends": 5, "each axis again only if z moved": 9,
+            "each axis again only if y moved": 5,
+        }),
+        ((curve_of_2, back_at_2, [5] * 4), 9, {
+            "the largest of the axes' own": 5, "each axis once, from the distance of the ends": 9,
+        }),
+    ):  # fmt: skip
+        coordinates = tuple(c for point in zip(*axes) for c in point)
+        found = wrong_searches(coordinates)
+        checks.equal(group, f"axes {axes}", chosen_count(coordinates), right)
+        checks.equal(group, f"axes {axes}, wrong ways", {way: found[way] for way in ways}, ways)
+    held = bytes(range(256)) * 2
+    gap, outside = on_axis(0, (0, 0, 0, 7)), on_axis(1, (0, 0, 0, 8))
+    for n, choice in product((0, 1, 512, 513, 4294967295), (OVER, UNDER)):
+        for side, grid, coordinates, mark, expected in (
+            (1, held + b"x", outside, 0, 11),
+            (65, held, outside, 0, 11),
+            (4294967295, held, outside, 0, 11),
+            (0, b"", outside, 0, 11),
+            (8, held + b"x", outside, 0, 21),
+            (8, held[:-1], outside, 0, 21),
+            (8, held, outside, 0, 12),
+            (8, held, outside, 1, 14),
+            (8, held, [255] * 12, 255, 14),
+        ):
+            record = curve(coordinates, n, mark, choice)
+            answer = draw_chosen(side, record, grid)
+            checks.equal(group, f"draw {side} {len(grid)} {record}", answer, DrawAnswer(expected, None, None, grid))
+            counted = choose_steps(side, record).refusal
+            checks.equal(group, f"count {side} {record}", counted, 14 if expected in (12, 21) else expected)
+        record = curve(gap, n, 7, choice)
+        answer = draw_chosen(8, record, held)
+        checks.equal(group, f"draw, n = {n}", answer, draw(8, curve(gap, 20, 7, choice), held))
+        checks.equal(group, f"laws, n = {n}", broken_chosen_laws(8, record, held, answer), [])
+        checks.equal(group, f"count, n = {n}", choose_steps(8, record._replace(mark=0)), CountAnswer(None, 20))
+    start = bytes(512)
+    call = 8, Chosen(curve(on_axis(0, (0, 1, 2, 3)), 1, 9))
+    checks.equal(group, "demand 3", demand_3([call], [start, bytes([9] * 4) + start[4:]]), True)
+    for label, row_of_4 in ("drawn with its own n", [9, 0, 0, 9]), ("one step left out", [9, 9, 9, 0]):
+        checks.equal(group, f"demand 3, {label}", demand_3([call], [start, bytes(row_of_4) + start[4:]]), False)
+    checks.equal(group, "demand 3, nothing drawn", demand_3([call], [start, start]), False)
+    dice = random.Random(10)
+    told, refused = Counter(), Counter()
+    for number in range(60):
+        side = dice.choice((2, 3, 4, 8, 13, 20))
+        calls = []
+        for _ in range(6):
+            record = random_record(dice, side)
+            chosen_too = len(record.counts) == 1 and dice.random() < 0.9
+            calls.append((dice.choice((1, side, side, side, side)), Chosen(record) if chosen_too else record))
+        grids = run(calls, random_grid(dice, side))
+        checks.equal(group, f"list {number}", demand_3(calls, grids), True)
+        for k, (called, chosen) in enumerate(calls):
+            if isinstance(chosen, Chosen):
+                record, grid = chosen.record, grids[k]
+                answer = draw_chosen(called, record, grid)
+                checks.equal(group, f"list {number}, call {k}", broken_chosen_laws(called, record, grid, answer), [])
+                checks.equal(group, f"list {number}, call {k}, grid", answer.lent, grids[k + 1])
+                counted, back = choose_steps(called, record), choose_steps(called, from_other_end(record))
+                checks.equal(group, f"list {number}, call {k}, from the other end", back, counted)
+                if answer.refusal is None:
+                    checks.equal(group, f"list {number}, call {k}, count", answer.count, counted.steps + 1)
+                refused[answer.refusal] += 1
+                told.update(chosen_told_apart(called, record, grid, answer))
+    checks.equal(group, f"every answer: {refused}", {*refused}, {None, 11, 12, 14})
+    ways = [way for way in (*WRONG_SEARCHES, *WRONG_OWN, *WRONG_CHOICES) if way not in SELDOM_WRONG]
+    few = {way: told[way] for way in ways if told[way] < 2}
+    checks.equal(group, f"wrong ways told apart by 2 calls or more: {told}", few, {})
+
+
 def check_demand_3_can_fail(checks):
     """Document 01's impostors and slips are seen by the checks of demand 3, and strokes that go under wrongly."""
     group = "demand 3, impostors"
@@ -1742,6 +2181,7 @@ def self_check():
         check_new_cells,
         check_choices,
         check_quitting,
+        check_chosen,
         check_demand_3_can_fail,
         check_random_calls,
     ):

@@ -6,6 +6,7 @@ use crate::answer::Answer;
 use crate::answer::holding;
 use cases::bytes::low_byte;
 use cases::record::number;
+use chosen::CountAnswer;
 use curve::CheckAnswer;
 use curve::Curve;
 use decide::Verdict;
@@ -44,6 +45,14 @@ pub(crate) fn patch_checked(verdict: Verdict) -> Answer {
     match verdict {
         Verdict::Accepted => holding(b'A', 0, 0, b""),
         Verdict::Refused(n) => holding(b'R', n, 0, b""),
+    }
+}
+
+// What the choice of a step count answered, with nothing lent: the count.
+pub(crate) fn counted(answer: CountAnswer) -> Answer {
+    match answer {
+        CountAnswer::Steps(n) => holding(b'A', n, 0, b""),
+        CountAnswer::Refused(n) => holding(b'R', n, 0, b""),
     }
 }
 

@@ -6,6 +6,8 @@
 //     L side steps mark length 0 choice points     lists a curve, the lent bytes as its list
 //     E side steps mark length 0 choice points     lists a curve as L does, and once more from its other end
 //     C side steps mark 0 0 choice points          checks a curve
+//     M side steps mark 0 0 choice points          chooses the step count of a curve
+//     W side steps mark length 0 choice points     draws a curve with a chosen count, the lent bytes as its grid
 //     P side n mark length m choice points         draws a patch, the lent bytes as its grid
 //     Q side n mark 0 m choice points              checks a patch
 //
@@ -23,9 +25,10 @@
 //     S bytes bytes bytes bytes 0              shown (hexadecimal)
 //     B                                        no such case
 //
-// where count is the number of samples, but for a check of a curve 1 if the step test quit and 0 if it walked, and for a
-// check of a patch 0; new is the number of the cells that a drawing turned from unmarked to marked, 0 for a listing and a
-// check; and marked, first and second say what the lent bytes hold afterwards (`answer::holding`); a check is lent none.
+// where count is the number of samples, but for a check of a curve 1 if the step test quit and 0 if it walked, for a check
+// of a patch 0, and for M the chosen count; new is the number of the cells that a drawing turned from unmarked to marked, 0
+// for all others; and marked, first and second say what the lent bytes hold afterwards (`answer::holding`); C, Q and M are
+// lent none.
 //
 // A case has 22 numbers, hence 199 bytes, and an answer five, hence 47 bytes.
 mod answer;
@@ -37,6 +40,7 @@ ghost use mathlib.Core.Path.{_≡_};
 ghost use Prim.Native.Nat.{_*_, _≤_};
 ghost use lib.ListN.{length};
 use answer::Answer;
+use calls::counted;
 use calls::curve_checked;
 use calls::curve_of;
 use calls::drawn;
@@ -95,9 +99,10 @@ fn answer_case(case: &[u8], buffer: &mut [u8]) -> Answer
         return answer::none();
     }
     match case[0] {
-        b'F' | b'D' | b'L' | b'E' | b'P' => answer_lent(case, buffer),
+        b'F' | b'D' | b'L' | b'E' | b'W' | b'P' => answer_lent(case, buffer),
         b'S' => bytes::show(case, buffer),
         b'C' => curve_checked(curve::check_curve(number(case, 0), curve_of(case))),
+        b'M' => counted(chosen::choose_steps(number(case, 0), curve_of(case))),
         b'Q' => patch_checked(patch::check_patch(number(case, 0), patch_of(case))),
         _ => answer::none(),
     }
@@ -122,6 +127,10 @@ fn answer_lent(case: &[u8], buffer: &mut [u8]) -> Answer
             lent,
         ),
         b'E' => ends::list_both(case, lent),
+        b'W' => drawn(
+            chosen::draw_chosen(number(case, 0), curve_of(case), lent),
+            lent,
+        ),
         b'P' => drawn(
             patch::draw_patch(number(case, 0), patch_of(case), lent),
             lent,

@@ -56,14 +56,26 @@ list-both-requires c κs = search needs
 number-requires-4 : tie.Need-number-requires-4
 number-requires-4 c κs = search needs
 
+curve-of-requires-3 : tie.Need-curve-of-requires-3
+curve-of-requires-3 c κs = search needs
+
+draw-chosen-requires : tie.Need-draw-chosen-requires
+draw-chosen-requires c κs = search needs
+
+drawn-requires-2 : tie.Need-drawn-requires-2
+drawn-requires-2 c κs = search needs
+
+number-requires-5 : tie.Need-number-requires-5
+number-requires-5 c κs = search needs
+
 patch-of-requires : tie.Need-patch-of-requires
 patch-of-requires c κs = search needs
 
 draw-patch-requires : tie.Need-draw-patch-requires
 draw-patch-requires c κs = search needs
 
-drawn-requires-2 : tie.Need-drawn-requires-2
-drawn-requires-2 c κs = search needs
+drawn-requires-3 : tie.Need-drawn-requires-3
+drawn-requires-3 c κs = search needs
 
 fill-requires : tie.Need-fill-requires
 fill-requires c κs = search needs
@@ -98,6 +110,12 @@ same-length-5 c = search needs
 returns-6 : tie.Need-returns-6
 returns-6 c = search needs
 
+same-length-6 : tie.Need-same-length-6
+same-length-6 c = search needs
+
+returns-7 : tie.Need-returns-7
+returns-7 c = search needs
+
 pub answer-lent-spec : {M : Type 1} → statement M
 answer-lent-spec =
     tie.close
@@ -119,9 +137,13 @@ answer-lent-spec =
     listed-requires
     list-both-requires
     number-requires-4
+    curve-of-requires-3
+    draw-chosen-requires
+    drawn-requires-2
+    number-requires-5
     patch-of-requires
     draw-patch-requires
-    drawn-requires-2
+    drawn-requires-3
     fill-requires
     same-length
     returns-2
@@ -132,4 +154,6 @@ answer-lent-spec =
     same-length-4
     returns-5
     same-length-5
-    returns-6)
+    returns-6
+    same-length-6
+    returns-7)
