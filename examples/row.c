@@ -1,8 +1,9 @@
 /* Draws K12's patch, x of g(i, j) = i + j with n = m = 4, over what the grid holds. y and z are chosen so that its row 2 has
    a line of the cube of its own: y of g(i, j) = j, z = 2 for j = 2 and 0 otherwise; the line is y = 1, z = 1. A curve along
    the whole line is checked, with 9 steps, three times its largest gap, so that the step test quits. Then it goes under:
-   it marks the cells that row 2 has left, and row 2 keeps its marks. After each drawing the number of its samples, how
-   many cells are new, and what the line holds are printed. */
+   it marks the cells that row 2 has left, and row 2 keeps its marks. Last it goes over, with as few steps as can be, which
+   the box chooses. After each drawing the number of its samples, how many cells are new, and what the line holds are
+   printed. */
 #include "gidzkhalu.h"
 #include <stdio.h>
 
@@ -60,5 +61,9 @@ int main(void) {
         return 1;
     }
     answer = gidzkhalu_draw_curve(SIDE, along, sizeof along, STEPS, 8, GIDZKHALU_UNDER, grid, sizeof grid, &new_cells);
-    return print_drawing("curve under", answer, new_cells, line);
+    if (print_drawing("curve under", answer, new_cells, line) != 0) {
+        return 1;
+    }
+    answer = gidzkhalu_draw_chosen(SIDE, along, sizeof along, 9, GIDZKHALU_OVER, grid, sizeof grid, &new_cells);
+    return print_drawing("curve over, steps chosen", answer, new_cells, line);
 }

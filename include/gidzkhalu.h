@@ -70,6 +70,7 @@ enum {
     GIDZKHALU_SIDE_MOST = 64,
     GIDZKHALU_SHEET_SIDE_MOST = 40,
     GIDZKHALU_CURVE_STEPS_MOST = 512,
+    GIDZKHALU_CHOSEN_STEPS_MOST = 189,      /* of a step count that the box chooses */
     GIDZKHALU_PATCH_STEPS_MOST = 256,
     GIDZKHALU_SHEET_CURVES_MOST = 200,
     GIDZKHALU_REFUSAL_NUMBER_MOST = 99999   /* of a refusal line's number and line */
@@ -136,6 +137,21 @@ int64_t gidzkhalu_list_curve(uint32_t side, const uint8_t *points, size_t points
    Stack: 209 bytes. Instructions: 19309. Environment: any. */
 int64_t gidzkhalu_draw_curve(uint32_t side, const uint8_t *points, size_t points_len, uint32_t steps, uint8_t mark,
                              uint32_t choice, uint8_t *grid, size_t grid_len, uint32_t *new_cells);
+
+/* Chooses the step count of a curve: the smallest from 1 on with which no step is too long. Answer: that count. It is at
+   most three times the largest gap between consecutive points on an axis, or 1 if all points agree, so never above 189.
+   Some counts above it may be refused all the same: for the x 0 0 3 0, y and z all equal, it is 1, and 2 to 6 are refused.
+   Refusals: 51, 11, 14.
+   Stack: 163 bytes. Instructions: 20689. Environment: any. */
+int64_t gidzkhalu_choose_steps(uint32_t side, const uint8_t *points, size_t points_len);
+
+/* Draws a curve, over or under, with the step count that gidzkhalu_choose_steps answers, and writes the count of new cells,
+   from 0 to the number of samples, into *new_cells: all is as gidzkhalu_draw_curve leaves it with that count. Answer: the
+   number of samples, which is the count + 1.
+   Refusals: 51, 55, 11, 21, 12, 14.
+   Stack: 241 bytes. Instructions: 28269. Environment: any. */
+int64_t gidzkhalu_draw_chosen(uint32_t side, const uint8_t *points, size_t points_len, uint8_t mark, uint32_t choice,
+                              uint8_t *grid, size_t grid_len, uint32_t *new_cells);
 
 /* Patches: points has x y z of points 0 to 15, 48 bytes; g(i, j), i along t and j along u, is point 4 i + j. n steps
    along t, m along u. */

@@ -300,18 +300,17 @@ static size_t bad_length(const struct object_call *call) {
     }
 }
 
-void random_object(struct object_call *call, uint8_t *points, int large, unsigned faults) {
+/* All but points and counts. */
+static void begin_record(struct object_call *call, uint8_t *points, unsigned faults) {
     call->points = points;
     call->points_len = call->patch ? 48 : 12;
     call->mark = (faults & BAD_MARK) != 0 ? 0 : (uint8_t)(1 + below(255));
     call->choice = (faults & BAD_CHOICE) != 0 ? bad_choice() : below(2);
     random_bytes(points, 64);
-    random_points(points, call->patch, call->side, large);
-    random_counts(call, large);
-    if (faults & LONG_STEP)
-        long_step(call, points, faults);
-    if (faults & BAD_COUNT)
-        bad_count(call, points, faults);
+}
+
+/* The faults that do not look at the counts, and the lent length. */
+static void end_record(struct object_call *call, uint8_t *points, unsigned faults) {
     if (faults & BAD_SIDE)
         call->side = bad_side();
     if (faults & BAD_COORDINATE)
@@ -319,6 +318,17 @@ void random_object(struct object_call *call, uint8_t *points, int large, unsigne
     if (faults & BAD_RECORD)
         call->points_len = bad_points_len(call->points_len);
     call->lent_len = (faults & BAD_LENGTH) != 0 ? bad_length(call) : right_length(call);
+}
+
+void random_object(struct object_call *call, uint8_t *points, int large, unsigned faults) {
+    begin_record(call, points, faults);
+    random_points(points, call->patch, call->side, large);
+    random_counts(call, large);
+    if (faults & LONG_STEP)
+        long_step(call, points, faults);
+    if (faults & BAD_COUNT)
+        bad_count(call, points, faults);
+    end_record(call, points, faults);
 }
 
 /* Curves near where the step test quits */
@@ -405,6 +415,53 @@ void random_gaps(struct object_call *call, uint8_t *points, unsigned faults) {
         call->side = bad_side();
     if (faults & BAD_RECORD)
         call->points_len = bad_points_len(call->points_len);
+}
+
+/* Curves whose step count is chosen */
+
+/* Shapes of one axis, in sixths of its spread: straight, two gaps alike, one gap first, last or between, and ends that
+   agree. */
+static const uint8_t SIXTHS[][4] = {{0, 2, 4, 6}, {0, 3, 6, 6}, {0, 0, 3, 6}, {0, 6, 6, 6},
+                                    {0, 0, 0, 6}, {0, 0, 6, 6}, {0, 0, 6, 0}, {0, 6, 0, 6}};
+
+/* Changes points 2 and 3, where the side allows it, so that the ends are two apart and the value half-way is one from each:
+   two steps are accepted, and more may be refused. */
+static void put_even(uint8_t *points, uint32_t side) {
+    uint32_t last = points[0] + 2u, both = points[0] + last;
+    if (last < side && points[3] <= both && both - points[3] < side) {
+        points[6] = (uint8_t)(both - points[3]);
+        points[9] = (uint8_t)last;
+    }
+}
+
+/* Such a shape, often with a point moved by one; or ends that are near one another, or two apart, and anything between; or
+   anything. */
+static void chosen_axis(uint8_t *points, uint32_t side, uint32_t spread) {
+    const uint8_t *shape = PICK(SIXTHS);
+    uint32_t low = below(side - spread), kind = below(8), moved = 3 * below(4);
+    int back = one_in(2);
+    for (uint32_t k = 0; k < 4; k++) {
+        uint32_t c = kind < 4 ? spread * shape[k] / 6 : below(spread + 1);
+        points[3 * k] = (uint8_t)(low + (back ? spread - c : c));
+    }
+    if (kind == 2 || kind == 3)
+        points[moved] = near_to(points[moved], 1, side);
+    if (kind == 4)
+        points[9] = near_to(points[0], 4, side);
+    if (kind == 5)
+        put_even(points, side);
+}
+
+/* One axis may be the widest by far, or the only one that is not flat. */
+void random_chosen(struct object_call *call, uint8_t *points, int large, unsigned faults) {
+    uint32_t widest = random_spread(call->side, 12, large), axis = below(3), others = below(3);
+    begin_record(call, points, faults);
+    call->n = random_word();
+    for (uint32_t a = 0; a < 3; a++) {
+        uint32_t spread = a == axis || others == 0 ? widest : others == 1 ? below(widest + 1) : below(2);
+        chosen_axis(points + a, call->side, spread < call->side ? spread : call->side - 1);
+    }
+    end_record(call, points, faults);
 }
 
 /* Swatches */

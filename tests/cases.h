@@ -44,6 +44,12 @@ enum { RECORD_FAULTS = BAD_RECORD | BAD_SIDE | BAD_COUNT | BAD_COORDINATE };
 
 void random_gaps(struct object_call *call, uint8_t *points, unsigned faults);
 
+/* The same for a curve whose step count is chosen, at points that make the choice hard. Of the faults it takes those in
+   CHOSEN_FAULTS. */
+enum { CHOSEN_FAULTS = BAD_RECORD | BAD_SIDE | BAD_LENGTH | BAD_MARK | BAD_COORDINATE | BAD_CHOICE };
+
+void random_chosen(struct object_call *call, uint8_t *points, int large, unsigned faults);
+
 /* A grid of side^3 bytes, or a list of 3 (n + 1) bytes and a few more. A cube that is too large gets its 32-bit length. */
 size_t right_length(const struct object_call *call);
 

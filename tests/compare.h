@@ -43,7 +43,8 @@ struct counts {
 void count_order(struct counts *counts, const struct order *order);
 
 /* What a whole run must meet. Entries of drawings over are followed by as many of the same drawings under. The entries of
-   one gap are in the order of its place, 3 x its axis + its first point. */
+   one gap are in the order of its place, 3 x its axis + its first point; those of a step that is too long are in the order
+   of axes, and of each axis first, inside, last. */
 #define MET(X)                                                                                                         \
     X(CURVE_HALF_RISING, "curve samples on a half, above the sample before")                                           \
     X(CURVE_HALF_FALLING, "curve samples on a half, below the sample before")                                          \
@@ -117,6 +118,40 @@ void count_order(struct counts *counts, const struct order *order);
     X(QUIT_13_0, "13 for equal points with n = 0")                                                                     \
     X(QUIT_22, "22 for a curve that would quit")                                                                       \
     X(QUIT_14, "14 for a curve that would quit")                                                                       \
+    X(CHOSEN_EQUAL, "chosen counts of 1, all points equal")                                                            \
+    X(CHOSEN_1, "chosen counts of 1, a gap of 2 or more")                                                              \
+    X(CHOSEN_ENOUGH, "chosen counts of 3 x the largest gap, which is 2 or more")                                       \
+    X(CHOSEN_BELOW, "chosen counts one below 3 x the largest gap, which is 2 or more")                                 \
+    X(CHOSEN_HALF, "chosen counts above 1, at most a half of 3 x the largest gap")                                     \
+    X(CHOSEN_ENDS, "chosen counts above 1 that are the distance of points 0 and 3 on an axis")                         \
+    X(CHOSEN_STEP_ONE, "chosen counts with a step of exactly one cell")                                                \
+    X(CHOSEN_188, "chosen counts of 188")                                                                              \
+    X(CHOSEN_X_FIRST, "chosen counts where for one less the first step on x is too long, and no other")                \
+    X(CHOSEN_X_INSIDE, "chosen counts where for one less steps on x are too long, not the first or last")              \
+    X(CHOSEN_X_LAST, "chosen counts where for one less the last step on x is too long, and no other")                  \
+    X(CHOSEN_Y_FIRST, "chosen counts where for one less the first step on y is too long, and no other")                \
+    X(CHOSEN_Y_INSIDE, "chosen counts where for one less steps on y are too long, not the first or last")              \
+    X(CHOSEN_Y_LAST, "chosen counts where for one less the last step on y is too long, and no other")                  \
+    X(CHOSEN_Z_FIRST, "chosen counts where for one less the first step on z is too long, and no other")                \
+    X(CHOSEN_Z_INSIDE, "chosen counts where for one less steps on z are too long, not the first or last")              \
+    X(CHOSEN_Z_LAST, "chosen counts where for one less the last step on z is too long, and no other")                  \
+    X(CHOSEN_ABOVE_AXES, "chosen counts above that of each axis alone")                                                \
+    X(CHOSEN_1_REFUSED, "chosen counts of 1 with a larger count refused")                                              \
+    X(CHOSEN_REFUSED, "chosen counts above 1 with a larger count refused")                                             \
+    X(CHECKED_BELOW, "15 from a check with a count below the chosen one")                                              \
+    X(CHECKED_CHOSEN, "checks accepted with the chosen count")                                                         \
+    X(CHOSEN_TURNED, "chosen counts compared with those from the other end, on other axes")                            \
+    X(CHOSEN_OR_PASSED, "drawings with the chosen count compared with those with that count passed")                   \
+    X(CHOSEN_SIDE_1, "calls that choose a count, of side 1")                                                           \
+    X(CHOSEN_SIDE_2, "accepted calls that choose a count, of side 2")                                                  \
+    X(CHOSEN_SIDE_64, "accepted calls that choose a count, of side 64")                                                \
+    X(CHOSEN_SIDE_65, "calls that choose a count, of side 65")                                                         \
+    X(CHOSEN_COORDINATE_LAST, "accepted calls that choose a count, with a coordinate side - 1")                        \
+    X(CHOSEN_COORDINATE_SIDE, "14 for a call that chooses a count, with a coordinate equal to the side")               \
+    X(CHOSEN_GRID_SHORT, "21 for a drawing with a chosen count, a grid one byte short")                                \
+    X(CHOSEN_GRID_LONG, "21 for a drawing with a chosen count, a grid one byte long")                                  \
+    X(CHOSEN_CHOICE_2, "55 for a drawing with a chosen count, the choice 2")                                           \
+    X(CHOSEN_CHOICE_256, "55 for a drawing with a chosen count, the choice 256")                                       \
     X(CURVE_OVER_UNMARKED, "curves drawn over, into an unmarked grid")                                                 \
     X(CURVE_OVER_HALF, "curves drawn over, 2 to 3 fifths of the grid marked, some cells new and some not")             \
     X(CURVE_OVER_MARKED, "curves drawn over, into a grid without an unmarked cell")                                    \
@@ -129,6 +164,12 @@ void count_order(struct counts *counts, const struct order *order);
     X(PATCH_UNDER_UNMARKED, "patches drawn under, into an unmarked grid")                                              \
     X(PATCH_UNDER_HALF, "patches drawn under, 2 to 3 fifths of the grid marked, some cells new and some not")          \
     X(PATCH_UNDER_MARKED, "patches drawn under, into a grid without an unmarked cell")                                 \
+    X(CHOSEN_OVER_UNMARKED, "curves drawn over with a chosen count, into an unmarked grid")                            \
+    X(CHOSEN_OVER_HALF, "the same, 2 to 3 fifths of the grid marked, some cells new and some not")                     \
+    X(CHOSEN_OVER_MARKED, "the same, into a grid without an unmarked cell")                                            \
+    X(CHOSEN_UNDER_UNMARKED, "curves drawn under with a chosen count, into an unmarked grid")                          \
+    X(CHOSEN_UNDER_HALF, "the same, 2 to 3 fifths of the grid marked, some cells new and some not")                    \
+    X(CHOSEN_UNDER_MARKED, "the same, into a grid without an unmarked cell")                                           \
     X(ALL_SAMPLES_NEW, "drawings with a new cell for every sample")                                                    \
     X(GRID_FILLED, "drawings that leave no cell unmarked, some new")                                                   \
     X(ONE_CELL_NEW, "curves with all samples in one cell, a new one")                                                  \
@@ -226,7 +267,8 @@ void count_order(struct counts *counts, const struct order *order);
     X(NULL_CUBE, "NULL for a cube of length 0")                                                                        \
     X(NULL_TEXT, "NULL for a text of length 0")                                                                        \
     X(LIST_OF_THREE, "lists with three accepted calls or more")                                                        \
-    X(LIST_OF_BOTH, "lists with accepted calls of both choices")
+    X(LIST_OF_BOTH, "lists with accepted calls of both choices")                                                       \
+    X(LIST_OF_CHOSEN, "lists with accepted curves of both kinds, their counts passed and chosen")
 
 #define MET_NAME(name, words) name,
 enum met { MET(MET_NAME) METS };

@@ -19,15 +19,17 @@ static struct lent points = {.name = "points"}, grid = {.name = "grid or list"},
 
 /* Curves and patches */
 
-static const char *const SERVICE[] = {"check", "list", "draw"};
+static const char *const SERVICE[] = {"check", "list", "draw", "choose the steps of", "draw with chosen steps"};
 
 static void print_object(const struct object_call *c) {
-    printf("  %s %s: side %" PRIu32 ", n %" PRIu32, SERVICE[c->service], c->patch ? "patch" : "curve", c->side, c->n);
+    printf("  %s %s: side %" PRIu32, SERVICE[c->service], c->patch ? "patch" : "curve", c->side);
+    if (!chooses(c))
+        printf(", n %" PRIu32, c->n);
     if (c->patch)
         printf(", m %" PRIu32, c->m);
-    if (c->service == DRAW)
+    if (draws(c))
         printf(", mark %d, choice %" PRIu32, c->mark, c->choice);
-    if (c->service != CHECK)
+    if (c->service == LIST || draws(c))
         printf(", %s of %zu bytes", c->service == LIST ? "list" : "grid", c->lent_len);
     printf("\n");
     print_bytes("points", c->points, c->points_len);
@@ -45,6 +47,10 @@ static int64_t library_object(const struct object_call *c) {
         return gidzkhalu_check_curve(c->side, p, len, c->n);
     if (c->service == LIST)
         return gidzkhalu_list_curve(c->side, p, len, c->n, c->lent, c->lent_len);
+    if (c->service == CHOOSE)
+        return gidzkhalu_choose_steps(c->side, p, len);
+    if (c->service == DRAW_CHOSEN)
+        return gidzkhalu_draw_chosen(c->side, p, len, c->mark, c->choice, c->lent, c->lent_len, c->new_cells);
     return gidzkhalu_draw_curve(c->side, p, len, c->n, c->mark, c->choice, c->lent, c->lent_len, c->new_cells);
 }
 
@@ -132,6 +138,40 @@ static void meet_refused_curve(const struct object_call *c, int64_t answer) {
 /* The values of the last object that passed all numbers before 15, and its cells if it was accepted. */
 static struct samples samples;
 
+static int ends_apart_by(const struct object_call *c, uint32_t far) {
+    int some = 0;
+    for (int axis = 0; axis < 3; axis++)
+        some |= (uint32_t)abs(c->points[axis] - c->points[axis + 9]) == far;
+    return some;
+}
+
+/* Of an accepted call that chooses; n is the chosen count. */
+static void meet_accepted_choice(const struct object_call *c) {
+    uint32_t gap = largest_gap(c->points).size;
+    meet(CHOSEN_EQUAL, c->n == 1 && gap == 0);
+    meet(CHOSEN_1, c->n == 1 && gap >= 2);
+    meet(CHOSEN_ENOUGH, gap >= 2 && c->n == 3 * gap);
+    meet(CHOSEN_BELOW, gap >= 2 && c->n + 1 == 3 * gap);
+    meet(CHOSEN_HALF, c->n > 1 && 2 * c->n <= 3 * gap);
+    meet(CHOSEN_ENDS, c->n > 1 && ends_apart_by(c, c->n));
+    meet(CHOSEN_STEP_ONE, longest_step(&samples) == samples.scale);
+    meet(CHOSEN_188, c->n == 188);
+    meet(CHOSEN_SIDE_2, c->side == 2);
+    meet(CHOSEN_SIDE_64, c->side == 64);
+    meet(CHOSEN_COORDINATE_LAST, any_coordinate(c, c->side - 1));
+}
+
+static void meet_refused_choice(const struct object_call *c, int64_t answer) {
+    size_t volume = (size_t)c->side * c->side * c->side;
+    meet(CHOSEN_SIDE_1, answer == -11 && c->side == 1);
+    meet(CHOSEN_SIDE_65, answer == -11 && c->side == 65);
+    meet(CHOSEN_COORDINATE_SIDE, answer == -14 && any_coordinate(c, c->side));
+    meet(CHOSEN_GRID_SHORT, answer == -21 && c->lent_len + 1 == volume);
+    meet(CHOSEN_GRID_LONG, answer == -21 && c->lent_len == volume + 1);
+    meet(CHOSEN_CHOICE_2, answer == -55 && c->choice == 2);
+    meet(CHOSEN_CHOICE_256, answer == -55 && c->choice == 256);
+}
+
 /* The neighbours of accepted patches whose cells differ by more than one on some axis. */
 static uint64_t patch_neighbours_apart;
 
@@ -185,6 +225,22 @@ static void meet_refused_object(const struct object_call *c, int64_t answer) {
     meet(STEP_ABOVE_ONE, answer == -15 && 50 * longest_step(&samples) < 51 * samples.scale);
 }
 
+static void meet_object(const struct object_call *c, int64_t answer) {
+    if (answer >= 0 && chooses(c)) {
+        meet_accepted_choice(c);
+    } else if (answer >= 0) {
+        meet_accepted_object(c);
+        if (!c->patch)
+            meet_accepted_curve(c, answer);
+    } else if (chooses(c)) {
+        meet_refused_choice(c, answer);
+    } else {
+        meet_refused_object(c, answer);
+        if (!c->patch && c->points_len >= GIDZKHALU_CURVE_BYTES)
+            meet_refused_curve(c, answer);
+    }
+}
+
 static void count_check(const struct object_call *c, int64_t answer) {
     running.counts->quit += c->service == CHECK && !c->patch && answer == GIDZKHALU_QUIT;
     running.counts->walked += c->service == CHECK && !c->patch && answer == GIDZKHALU_WALKED;
@@ -199,7 +255,8 @@ static void count_drawing(int64_t answer) {
 /* Compares the count of a drawing; unmarked is the number of unmarked cells of its grid before it. Those that the library
    counts in an accepted one are no more than its samples, its different cells and the unmarked cells. */
 static int compare_new_cells(const struct object_call *c, int64_t answer, size_t unmarked) {
-    uint32_t count = *number_at(new_cells.got), drawn = 6 * (c->patch != 0) + 3 * c->choice;
+    uint32_t count = *number_at(new_cells.got), kind = c->service == DRAW_CHOSEN ? 2 : c->patch != 0;
+    uint32_t drawn = 6 * kind + 3 * c->choice;
     size_t cells;
     count_drawing(answer);
     if (answer < 0)
@@ -218,10 +275,11 @@ static int compare_new_cells(const struct object_call *c, int64_t answer, size_t
     return same(&new_cells) && count <= (uint64_t)answer && count <= cells && count <= unmarked;
 }
 
-/* Compares one call on the buffers points and grid; *want is the answer that the reference gives. */
+/* Compares one call on the buffers points and grid; *want is the answer that the reference gives. Of an accepted call that
+   chooses its count, that becomes the call's n. */
 static int compare_object(struct object_call *c, int64_t *want) {
     struct order order = {0};
-    size_t unmarked = c->service == DRAW ? unmarked_cells(grid.want, grid.len) : 0;
+    size_t unmarked = draws(c) ? unmarked_cells(grid.want, grid.len) : 0;
     uint64_t apart;
     int64_t got;
     int agreed;
@@ -232,22 +290,17 @@ static int compare_object(struct object_call *c, int64_t *want) {
     *want = reference_object(c, &order, &samples);
     apart = *want >= 0 ? cells_apart(c) : 0;
     c->points = passed(&points, NULL_POINTS);
-    if (c->service != CHECK)
+    if (c->service == LIST || draws(c))
         c->lent = passed(&grid, c->service == LIST ? NULL_LIST : NULL_GRID);
     c->new_cells = number_at(new_cells.got);
     got = library_object(c);
+    if (*want >= 0 && chooses(c))
+        c->n = (uint32_t)samples.along - 1;
     count_order(running.counts, &order);
     count_check(c, *want);
-    if (*want >= 0)
-        meet_accepted_object(c);
-    else
-        meet_refused_object(c, *want);
-    if (!c->patch && *want >= 0)
-        meet_accepted_curve(c, *want);
-    else if (!c->patch && c->points_len >= GIDZKHALU_CURVE_BYTES)
-        meet_refused_curve(c, *want);
+    meet_object(c, *want);
     agreed = apart == 0 && *want == got && same(&points) && same(&grid);
-    if (c->service == DRAW)
+    if (draws(c))
         agreed &= compare_new_cells(c, *want, unmarked);
     if (agreed)
         return 1;
@@ -258,7 +311,7 @@ static int compare_object(struct object_call *c, int64_t *want) {
     print_object(c);
     print_difference(&points);
     print_difference(&grid);
-    if (c->service == DRAW)
+    if (draws(c))
         print_number(&new_cells);
     return 0;
 }
@@ -273,7 +326,7 @@ static int object_case(enum service service, int patch, int large, unsigned faul
     if (service == LIST)
         lend(&grid, c.lent_len);
     else
-        lend_cube(&grid, service == DRAW ? c.lent_len : 0);
+        lend_cube(&grid, draws(&c) ? c.lent_len : 0);
     return compare_object(&c, &answer);
 }
 
@@ -360,6 +413,26 @@ static int near_quitting(void) {
     c.points = points.want;
     print_object(&c);
     return 0;
+}
+
+/* Chosen step counts */
+
+static int chosen_case(enum service service, int large, unsigned faults) {
+    struct object_call c = {service, 0, 0, 0, 0, 0, OVER, NULL, 0, NULL, 0, NULL};
+    uint8_t record[64];
+    int64_t answer;
+    c.side = !large ? random_side() : one_in(2) ? 64 : 33 + below(32);
+    random_chosen(&c, record, large, faults);
+    lend_bytes(&points, record, c.points_len);
+    lend_cube(&grid, draws(&c) ? c.lent_len : 0);
+    return compare_object(&c, &answer);
+}
+
+static int choose_steps(void) { return chosen_case(CHOOSE, 0, random_faults(CHOSEN_FAULTS)); }
+static int draw_chosen(void) { return chosen_case(DRAW_CHOSEN, 0, random_faults(CHOSEN_FAULTS)); }
+
+static int large_choice(void) {
+    return chosen_case(one_in(2) ? CHOOSE : DRAW_CHOSEN, 1, one_in(8) ? random_faults(CHOSEN_FAULTS) : 0);
 }
 
 /* Swatches */
@@ -806,7 +879,8 @@ static int refusal_line(void) {
 
 /* A length of the record or a choice that is wrong. */
 static int wrong_record(enum service service, int patch) {
-    unsigned fault = service == DRAW && one_in(2) ? BAD_CHOICE : BAD_RECORD;
+    int draws_it = service == DRAW || service == DRAW_CHOSEN;
+    unsigned fault = draws_it && one_in(2) ? BAD_CHOICE : BAD_RECORD;
     return object_case(service, patch, 0, fault | random_faults(ALL_FAULTS));
 }
 
@@ -825,7 +899,7 @@ static int wrong_length(void) {
     case 7:
         return wrong_record(one_in(2) ? CHECK : DRAW, 1);
     default:
-        return wrong_record((enum service)below(3), 0);
+        return wrong_record((enum service)below(5), 0);
     }
 }
 
@@ -881,6 +955,122 @@ static int compare_drawing(struct object_call *c, int64_t *answer) {
     return fault == NULL || print_drawing(fault, c, before);
 }
 
+/* Chosen counts, by other calls of the library */
+
+/* Of a chosen count of 3 or more: what one less is refused for, if that is a single axis. */
+static void meet_deciding(struct object_call c) {
+    int axes = 0, deciding = 0, first = 0, inside = 0, last = 0;
+    if (--c.n < 2)
+        return;
+    exact_values(&c, &samples);
+    for (int axis = 0; axis < 3; axis++) {
+        int some = 0;
+        for (uint32_t i = 0; i < c.n; i++) {
+            wide step = samples.value[axis][i + 1] - samples.value[axis][i];
+            int is_long = step > samples.scale || -step > samples.scale;
+            some |= is_long;
+            first |= is_long && i == 0;
+            last |= is_long && i + 1 == c.n;
+            inside |= is_long && 0 < i && i + 1 < c.n;
+        }
+        axes += some;
+        deciding = some ? axis : deciding;
+    }
+    if (axes == 1 && first + inside + last == 1)
+        meet((enum met)(CHOSEN_X_FIRST + 3 * deciding + (first ? 0 : inside ? 1 : 2)), 1);
+}
+
+/* The largest of the counts that would be chosen for the axes alone. */
+static uint32_t count_of_axes(const uint8_t record[GIDZKHALU_CURVE_BYTES]) {
+    uint32_t largest = 1;
+    for (int axis = 0; axis < 3; axis++) {
+        uint8_t alone[GIDZKHALU_CURVE_BYTES] = {0};
+        struct object_call c = {CHOOSE, 0, 64, 0, 0, 0, OVER, alone, sizeof alone, NULL, 0, NULL};
+        uint32_t count;
+        for (int k = 0; k < 4; k++)
+            alone[3 * k + axis] = record[3 * k + axis];
+        count = smallest_count(&c);
+        largest = count > largest ? count : largest;
+    }
+    return largest;
+}
+
+/* With the points in reverse order, their x y z as z x y, and side 64. */
+static int64_t count_turned(const uint8_t record[GIDZKHALU_CURVE_BYTES]) {
+    uint8_t turned[GIDZKHALU_CURVE_BYTES];
+    for (int k = 0; k < 12; k++)
+        turned[9 - k / 3 * 3 + (k + 1) % 3] = record[k];
+    return gidzkhalu_choose_steps(64, turned, sizeof turned);
+}
+
+/* What is wrong with a chosen count by checks of the library and by the count of the same points turned, or NULL. */
+static const char *fault_of_count(const struct object_call *c, const uint8_t record[GIDZKHALU_CURVE_BYTES]) {
+    size_t len = GIDZKHALU_CURVE_BYTES;
+    uint32_t most = 3 * largest_gap(record).size;
+    int refused_above = 0;
+    for (uint32_t n = 1; n < c->n; n++)
+        if (gidzkhalu_check_curve(c->side, record, len, n) != -GIDZKHALU_REFUSED_LONG_STEP)
+            return "a check does not refuse a count below the chosen one";
+    if (gidzkhalu_check_curve(c->side, record, len, c->n) < 0)
+        return "a check refuses the chosen count";
+    if (count_turned(record) != c->n)
+        return "from the other end, on other axes, another count is chosen";
+    for (uint32_t n = c->n + 1; n <= most && !refused_above; n++)
+        refused_above = gidzkhalu_check_curve(c->side, record, len, n) < 0;
+    meet(CHECKED_BELOW, c->n > 1);
+    meet(CHECKED_CHOSEN, 1);
+    meet(CHOSEN_TURNED, 1);
+    meet(c->n == 1 ? CHOSEN_1_REFUSED : CHOSEN_REFUSED, refused_above);
+    return c->n == 1 || c->n <= most ? NULL : "the chosen count is above three times the largest gap";
+}
+
+/* Draws a curve with the chosen count and with that count passed, each into a grid of the same bytes: the same answer, new
+   cells and grid. */
+static int chosen_or_passed(struct object_call *c) {
+    static uint8_t start[CELLS], drawn[CELLS];
+    uint32_t count;
+    int64_t answer, answer_passed;
+    c->service = DRAW_CHOSEN;
+    lend_cube(&grid, c->lent_len);
+    memcpy(start, grid.got, grid.len);
+    if (!compare_drawing(c, &answer))
+        return 0;
+    memcpy(drawn, grid.got, grid.len);
+    count = *number_at(new_cells.got);
+    lend_bytes(&grid, start, grid.len);
+    c->service = DRAW;
+    if (!compare_drawing(c, &answer_passed))
+        return 0;
+    meet(CHOSEN_OR_PASSED, 1);
+    return (answer == answer_passed && answer == (int64_t)c->n + 1 && count == *number_at(new_cells.got) &&
+            memcmp(drawn, grid.got, grid.len) == 0) ||
+           print_drawing("with the chosen count passed another drawing is made", c, start);
+}
+
+static int chosen_by_checks(void) {
+    struct object_call c = {CHOOSE, 0, random_side(), 0, 0, 0, OVER, NULL, 0, NULL, 0, NULL};
+    uint8_t record[64];
+    const char *fault;
+    int64_t answer;
+    random_chosen(&c, record, 0, 0);
+    lend_bytes(&points, record, c.points_len);
+    lend(&grid, 0);
+    if (!compare_object(&c, &answer))
+        return 0;
+    fault = fault_of_count(&c, record);
+    if (fault != NULL) {
+        print_failure(answer, answer);
+        printf("  %s:\n", fault);
+        c.points = points.want;
+        print_object(&c);
+        return 0;
+    }
+    c.points = record;
+    meet_deciding(c);
+    meet(CHOSEN_ABOVE_AXES, count_of_axes(record) < c.n);
+    return chosen_or_passed(&c);
+}
+
 /* Two drawings into one grid */
 
 /* The different cells of the object compared last that are marked in other. */
@@ -921,13 +1111,19 @@ static int drawn_again(struct object_call *c) {
     return 0;
 }
 
+/* A patch, or a curve, its count passed or chosen. */
+static enum service random_drawing(int *patch) {
+    *patch = one_in(3);
+    return *patch || !one_in(4) ? DRAW : DRAW_CHOSEN;
+}
+
 /* Into an unmarked grid, or one that holds marks: an object, then the same or another one. */
 static int two_drawings(void) {
     static uint8_t first_cells[CELLS];
     struct object_call first = {DRAW, 0, random_side(), 0, 0, 0, OVER, NULL, 0, NULL, 0, NULL}, second = first;
     uint8_t record[64];
     int64_t answer;
-    first.patch = one_in(3);
+    first.service = random_drawing(&first.patch);
     random_object(&first, record, 0, 0);
     lend_bytes(&points, record, first.points_len);
     lend_cube(&grid, first.lent_len);
@@ -943,7 +1139,7 @@ static int two_drawings(void) {
         return drawn_again(&first);
     memset(first_cells, 0, grid.len);
     mark_cells(&samples, first.side, 1, OVER, first_cells);
-    second.patch = one_in(3);
+    second.service = random_drawing(&second.patch);
     random_object(&second, record, 0, 0);
     lend_bytes(&points, record, second.points_len);
     if (!compare_drawing(&second, &answer))
@@ -977,7 +1173,7 @@ static int over_and_under(void) {
     uint8_t record[64];
     uint32_t count;
     int64_t answer, answer_under;
-    c.patch = one_in(3);
+    c.service = random_drawing(&c.patch);
     random_object(&c, record, 0, one_in(2) ? random_faults(ALL_FAULTS & ~(unsigned)BAD_CHOICE) : 0);
     lend_bytes(&points, record, c.points_len);
     lend_cube(&grid, c.lent_len);
@@ -1010,8 +1206,8 @@ static uint8_t call_points[CALLS][64];
 static int call_accepted[CALLS];
 
 static void random_call(struct object_call *c, uint8_t *record, uint32_t side) {
-    c->service = DRAW;
     c->patch = one_in(5);
+    c->service = c->patch || !one_in(4) ? DRAW : DRAW_CHOSEN;
     c->side = one_in(20) ? random_side() : side;
     c->m = 0;
     random_object(c, record, 0, one_in(4) ? random_faults(ALL_FAULTS) : 0);
@@ -1039,6 +1235,7 @@ static const char *fault_of_call(int k, size_t *added) {
     lend_bytes(&points, call_points[k], c.points_len);
     memcpy(before, grid.got, grid.len);
     agreed = compare_object(&c, &answer);
+    calls[k].n = c.n;
     call_accepted[k] = answer >= 0;
     if (answer >= 0) {
         *added += *number_at(new_cells.got);
@@ -1065,7 +1262,7 @@ static int list_holds(int length, const uint8_t *start) {
 static int list_of_calls(void) {
     static uint8_t start[CELLS];
     uint32_t side = random_side();
-    int length = (int)below(CALLS + 1), accepted[2] = {0, 0};
+    int length = (int)below(CALLS + 1), accepted[2] = {0, 0}, curves[2] = {0, 0};
     size_t added = 0;
     const char *fault;
     lend_cube(&grid, (size_t)side * side * side);
@@ -1077,9 +1274,12 @@ static int list_of_calls(void) {
             return print_list(fault, k + 1, start);
         if (call_accepted[k])
             accepted[calls[k].choice]++;
+        if (call_accepted[k] && !calls[k].patch)
+            curves[chooses(&calls[k])]++;
     }
     meet(LIST_OF_THREE, accepted[OVER] + accepted[UNDER] >= 3);
     meet(LIST_OF_BOTH, accepted[OVER] > 0 && accepted[UNDER] > 0);
+    meet(LIST_OF_CHOSEN, curves[0] > 0 && curves[1] > 0);
     if (added != unmarked_cells(start, grid.len) - unmarked_cells(grid.got, grid.len))
         return print_list("the new cells do not add up", length, start);
     return list_holds(length, start) || print_list("demand 3's first sentence does not hold", length, start);
@@ -1149,14 +1349,14 @@ static int known_drawing(int k, int axis, uint32_t choice) {
 }
 
 /* K1 with a mark and a choice into a grid whose other cells are unmarked: what its four cells hold before and after, and
-   how many are new. */
+   how many are new. Its 3 steps are those that are chosen for it. */
 static const struct {
     uint8_t mark;
     uint32_t choice;
     uint8_t before[4], after[4];
     int64_t answer;
     uint32_t count;
-} CHOSEN[] = {{7, GIDZKHALU_OVER, {0, 0, 0, 0}, {7, 7, 7, 7}, 4, 4},
+} PLACED[] = {{7, GIDZKHALU_OVER, {0, 0, 0, 0}, {7, 7, 7, 7}, 4, 4},
               {7, GIDZKHALU_UNDER, {0, 0, 0, 0}, {7, 7, 7, 7}, 4, 4},
               {9, GIDZKHALU_OVER, {0, 5, 9, 0}, {9, 9, 9, 9}, 4, 2},
               {9, GIDZKHALU_UNDER, {0, 5, 9, 0}, {9, 5, 9, 9}, 4, 2},
@@ -1165,23 +1365,32 @@ static const struct {
               {7, GIDZKHALU_UNDER, {3, 5, 9, 1}, {3, 5, 9, 1}, 4, 0},
               {7, 2, {0, 5, 9, 0}, {0, 5, 9, 0}, -GIDZKHALU_REFUSED_CHOICE, 0}};
 
-static int known_choice(size_t k, int axis) {
-    static const size_t stride[3] = {1, 8, 64};
-    struct object_call c = {DRAW, 0, 8, 3, 0, 0, OVER, NULL, 12, NULL, sizeof UNMARKED, NULL};
+static const size_t STRIDE[3] = {1, 8, 64};
+
+static int known_choice(size_t k, int axis, enum service service) {
+    struct object_call c = {service, 0, 8, 3, 0, 0, OVER, NULL, 12, NULL, sizeof UNMARKED, NULL};
     uint8_t held[sizeof UNMARKED] = {0};
     int64_t answer;
     for (size_t at = 0; at < 4; at++)
-        held[stride[axis] * at] = CHOSEN[k].before[at];
-    c.mark = CHOSEN[k].mark;
-    c.choice = CHOSEN[k].choice;
+        held[STRIDE[axis] * at] = PLACED[k].before[at];
+    c.mark = PLACED[k].mark;
+    c.choice = PLACED[k].choice;
     lend_known(0, axis);
     lend_bytes(&grid, held, sizeof held);
-    if (!compare_object(&c, &answer) || answer != CHOSEN[k].answer)
+    if (!compare_object(&c, &answer) || answer != PLACED[k].answer)
         return known_failed("K1, over or under");
     for (size_t at = 0; at < 4; at++)
-        held[stride[axis] * at] = CHOSEN[k].after[at];
-    return (memcmp(grid.got, held, sizeof held) == 0 && (answer < 0 || *number_at(new_cells.got) == CHOSEN[k].count)) ||
+        held[STRIDE[axis] * at] = PLACED[k].after[at];
+    return (memcmp(grid.got, held, sizeof held) == 0 && (answer < 0 || *number_at(new_cells.got) == PLACED[k].count)) ||
            known_failed("K1, over or under");
+}
+
+/* One axis of a curve, the others 0, or for 3 all three alike. */
+static void lend_axes(const uint8_t g[4], int axis) {
+    uint8_t record[12];
+    for (int at = 0; at < 12; at++)
+        record[at] = at % 3 == axis || axis == 3 ? g[at / 3] : 0;
+    lend_bytes(&points, record, 12);
 }
 
 /* One axis of a curve of side 64, the others are 0, or all three alike: what a check answers. */
@@ -1213,16 +1422,88 @@ static const struct {
                {{63, 0, 0, 0}, 187, -GIDZKHALU_REFUSED_LONG_STEP},
                {{64, 64, 64, 64}, 1, -GIDZKHALU_REFUSED_COORDINATE}};
 
-/* axis: 3 for all. */
 static int known_check(size_t k, int axis) {
     struct object_call c = {CHECK, 0, 64, CHECKED[k].n, 0, 0, OVER, NULL, 12, NULL, 0, NULL};
-    uint8_t record[12] = {0};
     int64_t answer;
-    for (int at = 0; at < 12; at++)
-        record[at] = at % 3 == axis || axis == 3 ? CHECKED[k].g[at / 3] : 0;
-    lend_bytes(&points, record, 12);
+    lend_axes(CHECKED[k].g, axis);
     lend(&grid, 0);
     return (compare_object(&c, &answer) && answer == CHECKED[k].answer) || known_failed("of checks");
+}
+
+/* One axis of a curve, the others are 0, or all three alike: the count that is chosen at side 64, and the cells of its
+   samples, where it is drawn at side 8. */
+static const struct {
+    uint8_t g[4];
+    uint32_t count;
+    const char *cells; /* NULL: not drawn */
+} COUNTED[] = {{{5, 5, 5, 5}, 1, "55"},
+               {{0, 0, 0, 1}, 1, "01"},
+               {{0, 3, 3, 0}, 1, "00"},
+               {{0, 0, 3, 0}, 1, "00"},
+               {{1, 7, 0, 0}, 1, "10"},
+               {{0, 63, 63, 1}, 1, NULL},
+               {{0, 2, 0, 2}, 2, "012"},
+               {{1, 4, 0, 3}, 2, "123"},    /* the first of 3 steps is 32/27 */
+               {{0, 0, 0, 2}, 5, "000012"}, /* 2 x 64/125 is above 1 */
+               {{0, 1, 2, 3}, 3, "0123"},
+               {{3, 2, 1, 0}, 3, "3210"},
+               {{0, 1, 2, 2}, 3, "0122"},       /* 24/27, 46/27, 2; with 2 steps 11/8 */
+               {{0, 0, 6, 6}, 9, "0012334566"}, /* 6 i^2 (27 - 2 i) / 729 */
+               {{0, 0, 0, 6}, 17, NULL},
+               {{6, 0, 0, 0}, 17, NULL},
+               {{6, 6, 6, 0}, 17, NULL},
+               {{0, 21, 42, 63}, 63, NULL},
+               {{0, 31, 62, 62}, 93, NULL}, /* the first of 92 steps is 31 x (3 x 92^2 - 1) / 92^3 */
+               {{63, 0, 0, 0}, 188, NULL},
+               {{0, 63, 63, 63}, 188, NULL},
+               {{63, 63, 63, 0}, 188, NULL}};
+
+/* Of an axis, or of all three for 3, the cells drawn into an unmarked grid, and no others. */
+static int known_cells(const char *cells, int axis, uint32_t choice) {
+    struct object_call c = {DRAW_CHOSEN, 0, 8, 0, 0, 9, choice, NULL, 12, NULL, sizeof UNMARKED, NULL};
+    uint8_t drawn[sizeof UNMARKED] = {0};
+    uint32_t different = 0;
+    int64_t answer;
+    for (size_t i = 0; cells[i] != 0; i++) {
+        uint8_t *cell = drawn + (axis < 3 ? STRIDE[axis] : 1 + 8 + 64) * (size_t)(cells[i] - '0');
+        different += *cell == 0;
+        *cell = 9;
+    }
+    lend_bytes(&grid, UNMARKED, sizeof UNMARKED);
+    return compare_object(&c, &answer) && answer == (int64_t)strlen(cells) && *number_at(new_cells.got) == different &&
+           memcmp(grid.got, drawn, sizeof drawn) == 0;
+}
+
+static int known_count(size_t k, int axis) {
+    struct object_call c = {CHOOSE, 0, 64, 0, 0, 0, OVER, NULL, 12, NULL, 0, NULL};
+    const char *cells = COUNTED[k].cells;
+    int64_t answer;
+    lend_axes(COUNTED[k].g, axis);
+    lend(&grid, 0);
+    if (!compare_object(&c, &answer) || answer != COUNTED[k].count)
+        return known_failed("of chosen counts");
+    return cells == NULL ||
+           (known_cells(cells, axis, GIDZKHALU_OVER) && known_cells(cells, axis, GIDZKHALU_UNDER)) ||
+           known_failed("of drawings with chosen counts");
+}
+
+/* Three axes of a curve, in any order. 0 0 3 0 accepts 1 and from 7 on, and 0 0 0 2 from 5 on. 7 0 14 7 refuses 3 to 17, its
+   first step being 21 (n - 1) (n - 2) / n^3, and accepts 1, 2 and 18; of 1 and 2, 1 4 0 3 refuses 1, and 0 0 3 0 2. */
+static const struct {
+    uint8_t g[3][4];
+    uint32_t count;
+} TOGETHER[] = {{{{0, 0, 3, 0}, {0, 0, 0, 2}, {0, 0, 0, 0}}, 7}, {{{7, 0, 14, 7}, {0, 0, 3, 0}, {1, 4, 0, 3}}, 18}};
+
+/* order: 0 to 5. */
+static int known_count_of_axes(size_t k, int order) {
+    struct object_call c = {CHOOSE, 0, 15, 0, 0, 0, OVER, NULL, 12, NULL, 0, NULL};
+    uint8_t record[12];
+    int64_t answer;
+    for (int at = 0; at < 12; at++)
+        record[at] = TOGETHER[k].g[(order < 3 ? at % 3 + order : order - at % 3) % 3][at / 3];
+    lend_bytes(&points, record, 12);
+    lend(&grid, 0);
+    return (compare_object(&c, &answer) && answer == TOGETHER[k].count) || known_failed("of chosen counts");
 }
 
 /* K12: x of g(i, j) is i + j; row 2 along t. No call lists a patch: the reference has the row, the grids agree. Its cells
@@ -1351,19 +1632,26 @@ static int document_samples(void) {
         for (int axis = 0; axis < 3; axis++)
             good &= known_curve(k, axis) & known_drawing(k, axis, GIDZKHALU_OVER) &
                     known_drawing(k, axis, GIDZKHALU_UNDER);
-    for (size_t k = 0; k < sizeof CHOSEN / sizeof *CHOSEN; k++)
+    for (size_t k = 0; k < sizeof PLACED / sizeof *PLACED; k++)
         for (int axis = 0; axis < 3; axis++)
-            good &= known_choice(k, axis);
+            good &= known_choice(k, axis, DRAW) & known_choice(k, axis, DRAW_CHOSEN);
     for (size_t k = 0; k < sizeof CHECKED / sizeof *CHECKED; k++)
         for (int axis = 0; axis <= 3; axis++)
             good &= known_check(k, axis);
+    for (size_t k = 0; k < sizeof COUNTED / sizeof *COUNTED; k++)
+        for (int axis = 0; axis <= 3; axis++)
+            good &= known_count(k, axis);
+    for (size_t k = 0; k < sizeof TOGETHER / sizeof *TOGETHER; k++)
+        for (int order = 0; order < 6; order++)
+            good &= known_count_of_axes(k, order);
     return good;
 }
 
 /* The run */
 
 static const int CHECK_ORDER[] = {51, 11, 13, 14, 15, 0}, LIST_ORDER[] = {51, 11, 13, 22, 14, 15, 0},
-                 DRAW_ORDER[] = {51, 55, 11, 21, 12, 13, 14, 15, 0}, CELL_ORDER[] = {53, 52, 11, 31, 32, 31, 32, 0},
+                 DRAW_ORDER[] = {51, 55, 11, 21, 12, 13, 14, 15, 0}, CHOOSE_ORDER[] = {51, 11, 14, 0},
+                 CHOSEN_ORDER[] = {51, 55, 11, 21, 12, 14, 0}, CELL_ORDER[] = {53, 52, 11, 31, 32, 31, 32, 0},
                  HUE_ORDER[] = {52, 11, 31, 33, 31, 32, 31, 32, 0},
                  HALF_ORDER[] = {53, 52, 31, 33, 31, 32, 31, 33, 31, 32, 0},
                  SIDE_LINE_ORDER[] = {21, 41, 42, 11, 43, 0},
@@ -1382,6 +1670,9 @@ static const struct kind {
             {"draw curve", 2000000, draw_curve, {DRAW_ORDER, NULL}},
             {"both ends", 500000, both_ends, {LIST_ORDER, NULL}},
             {"near quitting", 500000, near_quitting, {CHECK_ORDER, NULL}},
+            {"choose steps", 2000000, choose_steps, {CHOOSE_ORDER, NULL}},
+            {"draw chosen", 1000000, draw_chosen, {CHOSEN_ORDER, NULL}},
+            {"chosen by checks", 500000, chosen_by_checks, {NULL, NULL}},
             {"check patch", 1000000, check_patch, {CHECK_ORDER, NULL}},
             {"draw patch", 1000000, draw_patch, {DRAW_ORDER, NULL}},
             {"swatch to cell", 4000000, to_cell, {CELL_ORDER, NULL}},
@@ -1399,6 +1690,7 @@ static const struct kind {
             {"over and under", 200000, over_and_under, {BOTH_ORDER, NULL}},
             {"list of calls", 200000, list_of_calls, {DRAW_ORDER, NULL}},
             {"large curve", 100000, large_curve, {NULL, NULL}},
+            {"large choice", 50000, large_choice, {NULL, NULL}},
             {"large patch", 3000, large_patch, {NULL, NULL}},
             {"large sheet", 5000, large_sheet, {NULL, NULL}},
             {"large listing", 1000, large_listing, {NULL, NULL}},

@@ -99,9 +99,12 @@ static int64_t object(enum environment e, enum service service, int patch) {
     int large = one_in(64);
     volatile int64_t answer;
     c.side = large ? 33 + below(32) : random_side();
-    random_object(&c, record, large, one_in(2) ? random_faults(ALL_FAULTS) : 0);
-    lend(service == CHECK ? 0 : c.lent_len);
-    if (service == DRAW)
+    if (chooses(&c))
+        random_chosen(&c, record, large, one_in(2) ? random_faults(CHOSEN_FAULTS) : 0);
+    else
+        random_object(&c, record, large, one_in(2) ? random_faults(ALL_FAULTS) : 0);
+    lend(service == LIST || draws(&c) ? c.lent_len : 0);
+    if (draws(&c))
         random_cube(now, c.lent_len);
     if (patch && service == CHECK)
         UNDER(e, &answer, gidzkhalu_check_patch(c.side, record, c.points_len, c.n, c.m));
@@ -111,6 +114,11 @@ static int64_t object(enum environment e, enum service service, int patch) {
                                    &new_cells));
     else if (service == CHECK)
         UNDER(e, &answer, gidzkhalu_check_curve(c.side, record, c.points_len, c.n));
+    else if (service == CHOOSE)
+        UNDER(e, &answer, gidzkhalu_choose_steps(c.side, record, c.points_len));
+    else if (service == DRAW_CHOSEN)
+        UNDER(e, &answer,
+              gidzkhalu_draw_chosen(c.side, record, c.points_len, c.mark, c.choice, now, c.lent_len, &new_cells));
     else if (service == LIST)
         UNDER(e, &answer, gidzkhalu_list_curve(c.side, record, c.points_len, c.n, now, c.lent_len));
     else
@@ -135,6 +143,16 @@ static int64_t list_curve(enum environment e, uint64_t number) {
 static int64_t draw_curve(enum environment e, uint64_t number) {
     (void)number;
     return object(e, DRAW, 0);
+}
+
+static int64_t choose_steps(enum environment e, uint64_t number) {
+    (void)number;
+    return object(e, CHOOSE, 0);
+}
+
+static int64_t draw_chosen(enum environment e, uint64_t number) {
+    (void)number;
+    return object(e, DRAW_CHOSEN, 0);
 }
 
 static int64_t check_patch(enum environment e, uint64_t number) {
@@ -271,6 +289,8 @@ static struct function {
     {"check_curve", check_curve, 50000, {0}, 0, 0, 0, {0}, {{0}}},
     {"list_curve", list_curve, 50000, {0}, 0, 0, 0, {0}, {{0}}},
     {"draw_curve", draw_curve, 50000, {0}, 0, 0, 0, {0}, {{0}}},
+    {"choose_steps", choose_steps, 50000, {0}, 0, 0, 0, {0}, {{0}}},
+    {"draw_chosen", draw_chosen, 50000, {0}, 0, 0, 0, {0}, {{0}}},
     {"check_patch", check_patch, 20000, {0}, 0, 0, 0, {0}, {{0}}},
     {"draw_patch", draw_patch, 20000, {0}, 0, 0, 0, {0}, {{0}}},
     /* A channel up to 1/128 has the coordinate 0, so a result that is flushed to 0 changes no cell. */

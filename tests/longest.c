@@ -165,6 +165,72 @@ static void draw_curves(void) {
         winding_curve(DRAWINGS[k]);
 }
 
+/* Chosen counts: counts are tried upwards from the distance of the ends. The axes are asked in turn, each from the count
+   on to which the one before it came. An axis refuses a count after a walk up to its first step that is too long, and
+   without a walk where the last step is; it accepts one after a walk along all steps. So a call takes longest where many
+   counts are refused, late in a walk, and a large one is accepted by all axes. No axis refuses all counts late: in RELAYS
+   one does up to where the next goes on, and the last goes up to 187, by its first step or its last, so that 188 is
+   chosen, the most that there is. A search came to them that gave one axis after another those coordinates, of all that
+   there are, with which the call has the most instructions, until no axis changed. The first has the most that was found
+   for a count alone, the second for a drawing; in the third x alone refuses late. Each is there with its axes in any
+   order, from both ends, and with 63 less each coordinate. The patterns of curves are there as well; of those that fall
+   or rise every count from 63 to 187 is refused, at once. */
+static const uint8_t RELAYS[][3][4] = {{{39, 53, 12, 0}, {40, 63, 22, 0}, {63, 0, 6, 28}},
+                                       {{39, 53, 12, 0}, {40, 63, 22, 0}, {63, 0, 5, 32}},
+                                       {{46, 63, 0, 0}, {62, 0, 4, 30}, {63, 0, 1, 56}}};
+
+/* drawing: NULL for the count alone. */
+static void chosen_curve(const uint8_t points[GIDZKHALU_CURVE_BYTES], const struct drawing *drawing) {
+    size_t len = GIDZKHALU_CURVE_BYTES;
+    int64_t answer;
+    if (drawing == NULL) {
+        answer = gidzkhalu_choose_steps(SIDE, points, len);
+    } else {
+        fill_grid(drawing->held);
+        answer = gidzkhalu_draw_chosen(SIDE, points, len, 255, drawing->choice, grid, sizeof grid, &new_cells);
+    }
+    printf("%" PRId64 ": side %d, ", answer, SIDE);
+    if (drawing != NULL)
+        print_drawing(*drawing);
+}
+
+/* turn: from 0 to 23, 4 x the order of the axes + 2 for 63 less each coordinate + 1 for the other end. */
+static void relay(size_t number, int turn, const struct drawing *drawing) {
+    uint8_t points[GIDZKHALU_CURVE_BYTES];
+    int order = turn / 4;
+    for (int at = 0; at < GIDZKHALU_CURVE_BYTES; at++) {
+        const uint8_t *axis = RELAYS[number][(order < 3 ? at % 3 + order : order - at % 3) % 3];
+        uint8_t coordinate = axis[turn % 2 ? 3 - at / 3 : at / 3];
+        points[at] = turn % 4 < 2 ? coordinate : (uint8_t)(SIDE - 1 - coordinate);
+    }
+    chosen_curve(points, drawing);
+    printf("one axis after another is refused:");
+    for (int at = 0; at < GIDZKHALU_CURVE_BYTES; at++)
+        printf(" %d", points[at]);
+    printf("\n");
+}
+
+static void chosen_curves(const struct drawing *drawing) {
+    for (int number = 0; number < COMBINATIONS; number++) {
+        struct axes axes = axes_of(number);
+        uint8_t points[GIDZKHALU_CURVE_BYTES];
+        for (int k = 0; k < 4; k++)
+            put_point(points + 3 * k, axes, k, SIDE - 1);
+        chosen_curve(points, drawing);
+        print_axes(axes);
+    }
+    for (size_t number = 0; number < SIZE(RELAYS); number++)
+        for (int turn = 0; turn < 24; turn++)
+            relay(number, turn, drawing);
+}
+
+static void choose_steps(void) { chosen_curves(NULL); }
+
+static void draw_chosen(void) {
+    for (size_t k = 0; k < SIZE(DRAWINGS); k++)
+        chosen_curves(&DRAWINGS[k]);
+}
+
 /* Patches: 256 x 256 steps at the largest side, so that no step is long and the step test walks along all. Samples are as
    those of curves, and every row is the same along t. Along u there is one walk, through the rows' first cells, so moves
    there count for little: some patches have them, and stay along t. */
@@ -401,6 +467,8 @@ static const struct {
                  {"gidzkhalu_check_curve", check_curves},
                  {"gidzkhalu_list_curve", list_curves},
                  {"gidzkhalu_draw_curve", draw_curves},
+                 {"gidzkhalu_choose_steps", choose_steps},
+                 {"gidzkhalu_draw_chosen", draw_chosen},
                  {"gidzkhalu_check_patch", check_patches},
                  {"gidzkhalu_draw_patch", draw_patches},
                  {"gidzkhalu_to_cell", cells},

@@ -28,6 +28,10 @@ static size_t place(uint32_t side, int32_t x, int32_t y, int32_t z) {
     return (size_t)x + (size_t)side * (size_t)y + (size_t)side * side * (size_t)z;
 }
 
+int draws(const struct object_call *c) { return c->service == DRAW || c->service == DRAW_CHOSEN; }
+
+int chooses(const struct object_call *c) { return c->service == CHOOSE || c->service == DRAW_CHOSEN; }
+
 /* Exact samples */
 
 static void weights_at(uint32_t n, uint32_t i, wide weight[4]) {
@@ -38,13 +42,17 @@ static void weights_at(uint32_t n, uint32_t i, wide weight[4]) {
     weight[3] = i1 * i1 * i1;
 }
 
+/* One axis: point k at points[3 k]. */
+static wide weighted(const uint8_t *points, int count, const wide *weight) {
+    wide sum = 0;
+    for (int k = 0; k < count; k++)
+        sum += weight[k] * points[3 * k];
+    return sum;
+}
+
 static void evaluate(const uint8_t *points, int count, const wide *weight, struct samples *s, size_t at) {
-    for (int axis = 0; axis < 3; axis++) {
-        wide sum = 0;
-        for (int k = 0; k < count; k++)
-            sum += weight[k] * points[3 * k + axis];
-        s->value[axis][at] = sum;
-    }
+    for (int axis = 0; axis < 3; axis++)
+        s->value[axis][at] = weighted(points + axis, count, weight);
 }
 
 static void curve_values(const struct object_call *c, struct samples *s) {
@@ -93,6 +101,30 @@ wide longest_step(const struct samples *s) {
                 longest = distance(v[at], v[at + s->along]);
         }
     return longest;
+}
+
+/* The smallest count */
+
+/* The values are those of exact_values; none is kept but those of the sample before. */
+static int some_step_too_long(const uint8_t *points, uint32_t n) {
+    wide weight[4], before[3] = {0}, scale = (wide)n * n * n;
+    for (uint32_t i = 0; i <= n; i++) {
+        weights_at(n, i, weight);
+        for (int axis = 0; axis < 3; axis++) {
+            wide value = weighted(points + axis, 4, weight);
+            if (i > 0 && distance(before[axis], value) > scale)
+                return 1;
+            before[axis] = value;
+        }
+    }
+    return 0;
+}
+
+uint32_t smallest_count(const struct object_call *c) {
+    uint32_t n = 1;
+    while (some_step_too_long(c->points, n))
+        n++;
+    return n;
 }
 
 /* Where the step test of a curve quits */
@@ -198,18 +230,20 @@ static int steps_too_long(const struct object_call *c, const struct order *order
 static void object_order(const struct object_call *c, struct order *order, struct samples *s) {
     int wrong_record = c->points_len != (c->patch ? 48 : 12);
     order_add(order, 51, wrong_record);
-    if (c->service == DRAW)
+    if (draws(c))
         order_add(order, 55, c->choice != OVER && c->choice != UNDER);
     order_add(order, 11, side_outside(c->side));
-    if (c->service == DRAW) {
+    if (draws(c)) {
         order_add(order, 21, (wide)c->lent_len != volume(c->side));
         order_add(order, 12, c->mark == 0);
     }
-    order_add(order, 13, count_outside(c));
+    if (!chooses(c))
+        order_add(order, 13, count_outside(c));
     if (c->service == LIST)
         order_add(order, 22, (wide)c->lent_len < 3 * ((wide)c->n + 1));
     order_add(order, 14, !wrong_record && coordinate_outside(c));
-    order_add(order, 15, !wrong_record && steps_too_long(c, order, s));
+    if (!chooses(c))
+        order_add(order, 15, !wrong_record && steps_too_long(c, order, s));
 }
 
 static void list_cells(const struct samples *s, uint8_t *list) {
@@ -263,9 +297,16 @@ int64_t reference_object(const struct object_call *c, struct order *order, struc
     object_order(c, order, s);
     if (order_first(order) != 0)
         return -order_first(order);
+    if (chooses(c)) {
+        struct object_call chosen = *c;
+        chosen.n = smallest_count(c);
+        exact_values(&chosen, s);
+    }
     take_cells(s);
     if (c->service == CHECK)
         return c->patch ? 0 : test_quits(c);
+    if (c->service == CHOOSE)
+        return (int64_t)s->along - 1;
     if (c->service == LIST)
         list_cells(s, c->lent);
     else

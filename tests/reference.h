@@ -21,14 +21,15 @@ void order_add(struct order *order, int number, int applies);
 /* The first number that applies, or 0. */
 int order_first(const struct order *order);
 
-/* A call that checks, lists or draws a curve or a patch. A drawing goes over what is marked, or under it. */
-enum service { CHECK, LIST, DRAW };
+/* A call that checks, lists or draws a curve or a patch, or chooses the step count of a curve, or draws a curve with that
+   count. A drawing goes over what is marked, or under it. */
+enum service { CHECK, LIST, DRAW, CHOOSE, DRAW_CHOSEN };
 enum choice { OVER, UNDER };
 
 struct object_call {
     enum service service;
     int patch;
-    uint32_t side, n, m; /* a curve has no m */
+    uint32_t side, n, m; /* a curve has no m; a call that chooses the count has no n */
     uint8_t mark;
     uint32_t choice; /* of a drawing; above UNDER it is refused */
     const uint8_t *points;
@@ -37,6 +38,10 @@ struct object_call {
     size_t lent_len;
     uint32_t *new_cells; /* of a drawing */
 };
+
+/* Whether the call draws, and whether it chooses its count. */
+int draws(const struct object_call *call);
+int chooses(const struct object_call *call);
 
 /* The exact values of an object, times scale, and its cells: row j's sample i is at (n + 1) j + i. */
 enum { SAMPLES = 257 * 257 };
@@ -58,14 +63,18 @@ wide longest_step(const struct samples *samples);
    most n. Points of 12 bytes or more must be there; no other number of the call is looked at. */
 int test_quits(const struct object_call *call);
 
+/* The smallest step count of a curve from 1 on with which no two neighbouring samples lie more than one cell apart on an
+   axis, tried in turn. Of the call the points alone are looked at, 12 bytes or more. */
+uint32_t smallest_count(const struct object_call *call);
+
 /* Adds the numbers of samples that lie on a half on some axis, above the sample before them or below it, and of those so
    near to a half that no value of their scale, above 8, lies between. The sample before is that along t, and along u
    where a row begins. */
 void count_ties(const struct samples *samples, uint64_t *rising, uint64_t *falling, uint64_t *beside);
 
-/* An accepted call leaves the object's values and cells in samples. A check of a curve answers 1 where the test quits and 0
-   where not; 15 is found from the exact samples in any case. The new cells of a drawing are the unmarked cells of the whole
-   grid before it minus those after it. */
+/* An accepted call leaves the object's values and cells in samples, those of the chosen count where the call chooses it. A
+   check of a curve answers 1 where the test quits and 0 where not; 15 is found from the exact samples in any case. The new
+   cells of a drawing are the unmarked cells of the whole grid before it minus those after it. */
 int64_t reference_object(const struct object_call *call, struct order *order, struct samples *samples);
 
 /* The bytes 0 of a grid. */

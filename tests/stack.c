@@ -5,10 +5,10 @@
    value of one paint shows with the other. Counted are the bytes from the stack pointer just before the call
    instruction down to the lowest byte that changed: the return address, the frame, the callees, and what is written
    below the stack pointer. Room that is reserved below that byte and never written does not show. Not counted are the
-   arguments that the caller puts on the stack, which lie above: 8 bytes for list_part, 24 for draw_curve, 32 for
-   draw_patch. Of memset, which is all that the library takes from outside, the return address is counted: the memset of
-   this file takes no more. A call that needs more than the painted room ends the run by a signal. For x86-64 and Linux
-   alone. */
+   arguments that the caller puts on the stack, which lie above: 8 bytes for list_part, 16 for draw_chosen, 24 for
+   draw_curve, 32 for draw_patch. Of memset, which is all that the library takes from outside, the return address is
+   counted: the memset of this file takes no more. A call that needs more than the painted room ends the run by a signal.
+   For x86-64 and Linux alone. */
 #define _DEFAULT_SOURCE
 #include "cases.h"
 #include "gidzkhalu.h"
@@ -138,6 +138,8 @@ enum function {
     CHECK_CURVE,
     LIST_CURVE,
     DRAW_CURVE,
+    CHOOSE_STEPS,
+    DRAW_WITH_CHOSEN,
     CHECK_PATCH,
     DRAW_PATCH,
     TO_CELL,
@@ -162,6 +164,8 @@ static struct figure {
     {"check_curve", {0, GIDZKHALU_QUIT, 51, 11, 13, 14, 15}, -1, 0, 0, {0}, 0, ""},
     {"list_curve", {0, 51, 11, 13, 22, 14, 15}, -1, 0, 0, {0}, 0, ""},
     {"draw_curve", {0, 51, 55, 11, 21, 12, 13, 14, 15}, -1, 0, 0, {0}, 0, ""},
+    {"choose_steps", {0, 51, 11, 14}, -1, 0, 0, {0}, 0, ""},
+    {"draw_chosen", {0, 51, 55, 11, 21, 12, 14}, -1, 0, 0, {0}, 0, ""},
     {"check_patch", {0, 51, 11, 13, 14, 15}, -1, 0, 0, {0}, 0, ""},
     {"draw_patch", {0, 51, 55, 11, 21, 12, 13, 14, 15}, -1, 0, 0, {0}, 0, ""},
     {"to_cell", {0, 53, 52, 11, 31, 33, 32}, -1, 0, 0, {0}, 0, ""},
@@ -249,6 +253,18 @@ static void measure_object(const struct object_call *c) {
         struct call call = {(uint64_t)gidzkhalu_list_curve, {side, p, len, n, g, g_len}, {0}};
         measure(LIST_CURVE, gidzkhalu_list_curve(c->side, c->points, len, c->n, c->lent, g_len), &call,
                 "side %" PRIu32 ", n %" PRIu32, c->side, c->n);
+    } else if (c->service == CHOOSE) {
+        struct call call = {(uint64_t)gidzkhalu_choose_steps, {side, p, len}, {0}};
+        int64_t answer = gidzkhalu_choose_steps(c->side, c->points, len);
+        measure(CHOOSE_STEPS, answer, &call, "side %" PRIu32 ", count %" PRId64, c->side, answer);
+    } else if (c->service == DRAW_CHOSEN) {
+        struct call call = {(uint64_t)gidzkhalu_draw_chosen,
+                            {side, p, len, c->mark, choice, g, g_len, PLACE(&new_cells)},
+                            {0}};
+        int64_t answer =
+            gidzkhalu_draw_chosen(c->side, c->points, len, c->mark, c->choice, c->lent, g_len, &new_cells);
+        measure(DRAW_WITH_CHOSEN, answer, &call, "side %" PRIu32 ", mark %d, choice %" PRIu32 ", %" PRId64 " samples",
+                c->side, c->mark, c->choice, answer);
     } else if (!c->patch) {
         struct call call = {(uint64_t)gidzkhalu_draw_curve,
                             {side, p, len, n, c->mark, choice, g, g_len, PLACE(&new_cells)},
@@ -280,7 +296,8 @@ static const uint32_t SIDES[] = {0, 1, 2, 3, 40, 41, 64, 65, 0xFFFFFFFF};
 static const uint32_t CURVE_COUNTS[] = {0, 1, 2, 3, 187, 188, 189, 511, 512, 513, 0xFFFFFFFF};
 static const uint32_t PATCH_COUNTS[] = {0, 1, 2, 187, 256, 257};
 
-/* Coordinates of the points, the same on the three axes; out is the least that is refused. */
+/* Coordinates of the points, the same on the three axes; out is the least that is refused. Where the box chooses the
+   count, the patterns have counts from 1 to 188 at side 64. */
 enum pattern { ALL_LEAST, ALL_GREATEST, IN_TURN, IN_A_ROW, FIRST_ALONE, LAST_ALONE, FIRST_OUT, LAST_OUT, PATTERNS };
 
 static uint8_t patterned(enum pattern pattern, size_t k, size_t count, uint32_t side) {
@@ -312,7 +329,7 @@ static void measure_with_faults(const struct object_call *right) {
     static const size_t lengths[] = {0, 11, 12, 13, 47, 48, 49};
     struct object_call c = *right;
     measure_object(&c);
-    for (size_t k = 0; k < SIZE(choices) && c.service == DRAW; k++) {
+    for (size_t k = 0; k < SIZE(choices) && draws(&c); k++) {
         c.choice = choices[k];
         measure_object(&c);
     }
@@ -348,9 +365,11 @@ static void chosen_object(struct object_call *c, uint8_t *points, enum pattern p
     measure_with_faults(c);
 }
 
+/* A call that chooses its count is made once for all counts. */
 static void chosen_objects(enum service service, int patch) {
     const uint32_t *counts = patch ? PATCH_COUNTS : CURVE_COUNTS;
-    size_t many = patch ? SIZE(PATCH_COUNTS) : SIZE(CURVE_COUNTS);
+    int one_count = service == CHOOSE || service == DRAW_CHOSEN;
+    size_t many = patch ? SIZE(PATCH_COUNTS) : one_count ? 1 : SIZE(CURVE_COUNTS);
     uint8_t points[64] = {0};
     for (size_t s = 0; s < SIZE(SIDES); s++)
         for (size_t n = 0; n < many; n++)
@@ -371,15 +390,48 @@ static void random_object_call(enum service service, int patch) {
     measure_object(&c);
 }
 
+/* The calls that choose the count: those of chosen_objects, and of every side from 2 to 64 each axis alone in each of the
+   patterns. */
+static void chosen_choices(enum service service) {
+    uint8_t points[64] = {0};
+    chosen_objects(service, 0);
+    for (uint32_t side = 2; side <= 64; side++)
+        for (int pattern = 0; pattern < PATTERNS; pattern++)
+            for (size_t axis = 0; axis < 3; axis++) {
+                struct object_call c = {service, 0, side, 0, 0, 255, UNDER, points, 12, grid, 0, NULL};
+                c.lent_len = GIDZKHALU_CUBE_BYTES(side);
+                for (size_t k = 0; k < 12; k++)
+                    points[k] = k % 3 == axis ? patterned((enum pattern)pattern, k / 3, 4, side) : 0;
+                measure_object(&c);
+            }
+}
+
+/* Points that make the choice hard, and any. */
+static void random_choice_call(enum service service) {
+    struct object_call c = {service, 0, 0, 0, 0, 0, OVER, NULL, 0, grid, 0, NULL};
+    uint8_t points[64];
+    int large = one_in(16);
+    c.side = large ? 33 + below(32) : random_side();
+    if (one_in(4))
+        random_object(&c, points, large, random_faults(ALL_FAULTS));
+    else
+        random_chosen(&c, points, large, random_faults(CHOSEN_FAULTS));
+    measure_object(&c);
+}
+
 static void chosen_check_curves(void) { chosen_objects(CHECK, 0); }
 static void chosen_list_curves(void) { chosen_objects(LIST, 0); }
 static void chosen_draw_curves(void) { chosen_objects(DRAW, 0); }
+static void chosen_choose_steps(void) { chosen_choices(CHOOSE); }
+static void chosen_draws_with_chosen(void) { chosen_choices(DRAW_CHOSEN); }
 static void chosen_check_patches(void) { chosen_objects(CHECK, 1); }
 static void chosen_draw_patches(void) { chosen_objects(DRAW, 1); }
 
 static void random_check_curve(void) { random_object_call(CHECK, 0); }
 static void random_list_curve(void) { random_object_call(LIST, 0); }
 static void random_draw_curve(void) { random_object_call(DRAW, 0); }
+static void random_choose_steps(void) { random_choice_call(CHOOSE); }
+static void random_draw_with_chosen(void) { random_choice_call(DRAW_CHOSEN); }
 static void random_check_patch(void) { random_object_call(CHECK, 1); }
 static void random_draw_patch(void) { random_object_call(DRAW, 1); }
 
@@ -682,14 +734,17 @@ static void random_refusal_line(void) {
 
 enum { RANDOM_CALLS = 5000 };
 
-static void (*const CHOSEN[FUNCTIONS])(void) = {chosen_check_curves,  chosen_list_curves,  chosen_draw_curves,
-                                                chosen_check_patches, chosen_draw_patches, chosen_to_cells,
-                                                chosen_half_ways,     chosen_sheets,       chosen_parts,
-                                                chosen_totals,        chosen_lines};
+static void (*const CHOSEN[FUNCTIONS])(void) = {
+    chosen_check_curves,      chosen_list_curves,   chosen_draw_curves,  chosen_choose_steps,
+    chosen_draws_with_chosen, chosen_check_patches, chosen_draw_patches, chosen_to_cells,
+    chosen_half_ways,         chosen_sheets,        chosen_parts,        chosen_totals,
+    chosen_lines};
 
 static void (*const RANDOM[FUNCTIONS])(void) = {
-    random_check_curve, random_list_curve, random_draw_curve, random_check_patch, random_draw_patch,  random_to_cell,
-    random_half_way,    random_draw_sheet, random_list_part,  random_totals,      random_refusal_line};
+    random_check_curve,      random_list_curve,  random_draw_curve, random_choose_steps,
+    random_draw_with_chosen, random_check_patch, random_draw_patch, random_to_cell,
+    random_half_way,         random_draw_sheet,  random_list_part,  random_totals,
+    random_refusal_line};
 
 static void run(void) {
     start_run(1);
