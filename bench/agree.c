@@ -47,6 +47,17 @@ static answer call_draw_curve(const struct box *box, uint8_t *lent)
     return box->draw_curve(in.side, in.points, in.points_len, in.n, in.mark, in.choice, lent, in.lent_len, &new_cells);
 }
 
+static answer call_choose_steps(const struct box *box, uint8_t *lent)
+{
+    (void)lent;
+    return box->choose_steps(in.side, in.points, in.points_len);
+}
+
+static answer call_draw_chosen(const struct box *box, uint8_t *lent)
+{
+    return box->draw_chosen(in.side, in.points, in.points_len, in.mark, in.choice, lent, in.lent_len, &new_cells);
+}
+
 static answer call_check_patch(const struct box *box, uint8_t *lent)
 {
     (void)lent;
@@ -127,6 +138,14 @@ static void take_curve(int s, int k)
     memcpy(in.points, curves[strokes[s].set][k], 12);
 }
 
+static void take_polygon(int set, int k)
+{
+    in.side = polygons_of[set].side;
+    in.mark = (uint8_t)(1 + k % 255);
+    in.points_len = 12;
+    memcpy(in.points, polygons[set][k], 12);
+}
+
 static void take_patch(int set, int k)
 {
     in.side = SIDE;
@@ -182,6 +201,28 @@ static void agree_on_curve(int s, int k)
     agree("list_curve", call_list_curve, in.lent_len + 1);
     in.lent_len = CELLS;
     agree_on_choices("draw_curve", call_draw_curve);
+}
+
+/* Document 02's own example, on every axis: 0 0 0 6 takes 17 steps. */
+static void agree_on_example(void)
+{
+    in.side = 7;
+    in.points_len = 12;
+    memset(in.points, 0, 9);
+    memset(in.points + 9, 6, 3);
+    if (agree("choose_steps", call_choose_steps, 0) != 17) {
+        printf("choose_steps: 0 0 0 6 does not take 17 steps\n");
+        exit(1);
+    }
+}
+
+static void agree_on_polygon(int set, int k)
+{
+    take_polygon(set, k);
+    agree("choose_steps", call_choose_steps, 0);
+    in.lent_len = (size_t)in.side * in.side * in.side;
+    for (in.choice = OVER; in.choice <= UNDER; in.choice++)
+        agree("draw_chosen", call_draw_chosen, in.lent_len + 1);
 }
 
 static void agree_on_patch(int set, int k)
@@ -253,6 +294,10 @@ void agree_on_inputs(void)
     for (int s = 0; s < STROKES; s++)
         for (int k = 0; k < CURVES; k++)
             agree_on_curve(s, k);
+    agree_on_example();
+    for (int set = 0; set < POLYGON_SETS; set++)
+        for (int k = 0; k < polygons_of[set].count; k++)
+            agree_on_polygon(set, k);
     for (int set = 0; set < 2; set++) {
         for (int k = 0; k < PATCHES; k++)
             agree_on_patch(set, k);
@@ -319,6 +364,8 @@ static void some_record(int points, uint32_t most)
 static void agree_on_record(void)
 {
     agree("draw_curve", call_draw_curve, ROOM);
+    agree("draw_chosen", call_draw_chosen, ROOM);
+    agree("choose_steps", call_choose_steps, 0);
     agree("check_curve", call_check_curve, 0);
     in.lent_len = 3 * (size_t)in.n + random_below(4);
     agree("list_curve", call_list_curve, 3 * 600);
@@ -541,6 +588,17 @@ static void wrong_curves_under(void)
     say_wrong("curves, n = 512, under: cells marked or left", count, of);
 }
 
+/* A count is wrong that is accepted and not the smallest. */
+static void wrong_counts(int set, const char *what)
+{
+    size_t count = 0;
+    for (int k = 0; k < polygons_of[set].count; k++) {
+        take_polygon(set, k);
+        count += call_choose_steps(&library, NULL) != call_choose_steps(&usual, NULL);
+    }
+    say_wrong(what, count, (size_t)polygons_of[set].count);
+}
+
 static void wrong_patches(int set, uint32_t choice, const char *what)
 {
     size_t count = 0, of = 0;
@@ -598,6 +656,8 @@ void count_wrong_cells(void)
     printf("| (c) gets wrong | wrong | of |\n|---|---|---|\n");
     wrong_curves();
     wrong_curves_under();
+    wrong_counts(SMALL, "chosen counts, side 8: not the smallest");
+    wrong_counts(LARGE, "chosen counts, side 64: not the smallest");
     wrong_patches(0, OVER, "patches, 64 × 64: cells marked or left");
     wrong_patches(0, UNDER, "patches, 64 × 64, under: cells marked or left");
     wrong_patches(1, OVER, "patches, 256 × 256: cells marked or left");

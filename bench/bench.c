@@ -67,7 +67,7 @@ static void fill_grid(uint8_t byte)
     filling += nanoseconds() - begin;
 }
 
-/* Each run answers how many units it did: samples, calls or sheets. */
+/* Each run answers how many units it did: samples, calls or sheets; 0 if the box has no such function. */
 
 /* A choice, and what the grid holds before a drawing. */
 enum { OVER_UNMARKED, OVER_MARKED, UNDER_UNMARKED, UNDER_MARKED };
@@ -143,6 +143,31 @@ static size_t list_curves(const struct box *box, int s)
 static size_t list_short(const struct box *box, int s)
 {
     return list_strokes(box, s, times_over);
+}
+
+/* A run over a set of polygons makes as many calls for each set. */
+static size_t choose_counts(const struct box *box, int set)
+{
+    const struct polygon_set *of = &polygons_of[set];
+    if (!box->choose_steps)
+        return 0;
+    for (int k = 0; k < POLYGONS; k++)
+        total += box->choose_steps(of->side, polygons[set][k % of->count], 12);
+    return POLYGONS;
+}
+
+static size_t draw_with_chosen(const struct box *box, int set)
+{
+    const struct polygon_set *of = &polygons_of[set];
+    uint32_t new_cells;
+    if (!box->draw_chosen)
+        return 0;
+    for (int k = 0; k < POLYGONS; k++) {
+        prepare_grid(OVER_MARKED, k, 1);
+        total += box->draw_chosen(of->side, polygons[set][k % of->count], 12, 1, OVER, grid,
+                                  (size_t)of->side * of->side * of->side, &new_cells);
+    }
+    return POLYGONS;
 }
 
 /* Set 0 has 64 × 64 steps, set 1 256 × 256, and fewer patches are enough. */
@@ -293,6 +318,12 @@ static const struct row {
     {"list it, n = 188, walks", "sample", "list_curve", list_curves, CROSSING_188, 4},
     {"list it, n = 189, quits", "sample", "list_curve", list_curves, CROSSING_189, 4},
     {"check a curve, first step too long", "call", "check_curve", check_curves, STEEP_64, 3},
+    {"choose the steps, side 8", "call", "choose_steps", choose_counts, SMALL, 4},
+    {"draw with the chosen count over, side 8", "call", "draw_chosen", draw_with_chosen, SMALL, 4},
+    {"choose the steps, side 64", "call", "choose_steps", choose_counts, LARGE, 4},
+    {"draw with the chosen count over, side 64", "call", "draw_chosen", draw_with_chosen, LARGE, 4},
+    {"choose the steps of the slowest polygon", "call", "choose_steps", choose_counts, SLOWEST, 4},
+    {"draw it with the chosen count over", "call", "draw_chosen", draw_with_chosen, SLOWEST, 4},
     {"draw a patch, 64 × 64, side 64, over, cells unmarked", "sample", "draw_patch", small_patches, OVER_UNMARKED, 4},
     {"draw it over, cells marked", "sample", "draw_patch", small_patches, OVER_MARKED, 4},
     {"draw it under, cells unmarked", "sample", "draw_patch", small_patches, UNDER_UNMARKED, 4},
@@ -428,7 +459,7 @@ static int by_size(const void *a, const void *b)
 }
 
 /* The median of a row's library times over those of a box, or of its library times alone for box 0, at a place, or at
-   all for -1; 0 if there is no line. */
+   all for -1; 0 if there is no line, or the box did no units and its time for one is infinite. */
 static double median(int count, int row, int place, int box)
 {
     static double values[MOST];
@@ -455,6 +486,10 @@ static void print_ratio(int count, int row, int box)
         logs += log(m);
         least = m < least ? m : least;
         most = m > most ? m : most;
+    }
+    if (places == 0) {
+        printf(" none | |");
+        return;
     }
     printf(" %.2f |", exp(logs / places));
     if (box == 1 || box == OTHER_BUILD)

@@ -20,6 +20,9 @@ typedef answer list_curve_fn(uint32_t side, const uint8_t *points, size_t points
                              size_t list_len);
 typedef answer draw_curve_fn(uint32_t side, const uint8_t *points, size_t points_len, uint32_t steps, uint8_t mark,
                              uint32_t choice, uint8_t *grid, size_t grid_len, uint32_t *new_cells);
+typedef answer choose_steps_fn(uint32_t side, const uint8_t *points, size_t points_len);
+typedef answer draw_chosen_fn(uint32_t side, const uint8_t *points, size_t points_len, uint8_t mark, uint32_t choice,
+                              uint8_t *grid, size_t grid_len, uint32_t *new_cells);
 typedef answer check_patch_fn(uint32_t side, const uint8_t *points, size_t points_len, uint32_t n, uint32_t m);
 typedef answer draw_patch_fn(uint32_t side, const uint8_t *points, size_t points_len, uint32_t n, uint32_t m,
                              uint8_t mark, uint32_t choice, uint8_t *grid, size_t grid_len, uint32_t *new_cells);
@@ -38,6 +41,8 @@ struct box {
     check_curve_fn *check_curve;
     list_curve_fn *list_curve;
     draw_curve_fn *draw_curve;
+    choose_steps_fn *choose_steps;
+    draw_chosen_fn *draw_chosen;
     check_patch_fn *check_patch;
     draw_patch_fn *draw_patch;
     to_cell_fn *to_cell;
@@ -48,10 +53,12 @@ struct box {
     refusal_line_fn *refusal_line;
 };
 
-#define DECLARE_BOX(prefix)             \
+#define DECLARE_BOX(prefix)                \
     check_curve_fn prefix##_check_curve;   \
     list_curve_fn prefix##_list_curve;     \
     draw_curve_fn prefix##_draw_curve;     \
+    choose_steps_fn prefix##_choose_steps; \
+    draw_chosen_fn prefix##_draw_chosen;   \
     check_patch_fn prefix##_check_patch;   \
     draw_patch_fn prefix##_draw_patch;     \
     to_cell_fn prefix##_to_cell;           \
@@ -63,9 +70,9 @@ struct box {
 
 #define BOX(prefix)                                                                                           \
     {                                                                                                         \
-        #prefix, prefix##_check_curve, prefix##_list_curve, prefix##_draw_curve, prefix##_check_patch,        \
-            prefix##_draw_patch, prefix##_to_cell, prefix##_half_way, prefix##_draw_sheet, prefix##_list_part, \
-            prefix##_totals, prefix##_refusal_line                                                            \
+        #prefix, prefix##_check_curve, prefix##_list_curve, prefix##_draw_curve, prefix##_choose_steps,       \
+            prefix##_draw_chosen, prefix##_check_patch, prefix##_draw_patch, prefix##_to_cell,                \
+            prefix##_half_way, prefix##_draw_sheet, prefix##_list_part, prefix##_totals, prefix##_refusal_line \
     }
 
 DECLARE_BOX(gidzkhalu);
@@ -73,5 +80,11 @@ DECLARE_BOX(same);
 DECLARE_BOX(direct);
 DECLARE_BOX(usual);
 DECLARE_BOX(before); /* another build of the library */
+
+/* What that build may lack: its rows then have no ratio to it. */
+#if defined(BEFORE)
+#pragma weak before_choose_steps
+#pragma weak before_draw_chosen
+#endif
 
 #endif

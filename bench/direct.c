@@ -52,6 +52,15 @@ static bool step_too_long(const uint8_t *points, uint32_t n)
     return false;
 }
 
+/* The smallest count that the step test accepts, by trying one after the other. */
+static uint32_t smallest(const uint8_t *points)
+{
+    uint32_t n = 1;
+    while (!quits(points, n) && step_too_long(points, n))
+        n++;
+    return n;
+}
+
 static INLINED uint32_t mark_samples(uint32_t side, const uint8_t *points, uint32_t n, uint8_t mark, bool under,
                                      uint8_t *grid)
 {
@@ -212,4 +221,5 @@ static uint8_t *put_totals(uint32_t side, const uint8_t *cube, uint8_t *text)
 
 #define CALL(name) direct_##name
 #include "calls.h"
+#include "chosen.h"
 #include "sheet.h"

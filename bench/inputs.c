@@ -9,7 +9,7 @@
 #include "gaps.h"
 
 uint8_t curves[CURVE_SETS][CURVES][12], patches[2][PATCHES][48], sheets[2][SHEETS][SHEET_BYTES];
-uint8_t full_cubes[CUBES][CELLS];
+uint8_t full_cubes[CUBES][CELLS], polygons[POLYGON_SETS][POLYGONS][12];
 float (*channels[3])[6];
 size_t swatches;
 
@@ -24,6 +24,14 @@ const struct strokes strokes[STROKES] = {
     [CROSSING_189] = {CROSSING, 189, QUIT},
     [STEEP_64] = {STEEP, 64, -15},
 };
+
+const struct polygon_set polygons_of[POLYGON_SETS] = {
+    [SMALL] = {8, POLYGONS},
+    [LARGE] = {SIDE, POLYGONS},
+    [SLOWEST] = {SIDE, 1},
+};
+
+static const uint8_t slowest[12] = {49, 40, 63, 63, 63, 0, 22, 22, 30, 10, 0, 26};
 
 static uint64_t state;
 
@@ -141,6 +149,15 @@ static void make_channels(int set)
             channels[set][i][c] = set == HUES && c % 3 == 0 ? random_hue() : random_channel(set == DARK);
 }
 
+void make_polygons(void)
+{
+    seed(2025);
+    for (int set = SMALL; set <= LARGE; set++)
+        for (int k = 0; k < POLYGONS; k++)
+            random_points(polygons[set][k], 4, polygons_of[set].side, polygons_of[set].side);
+    memcpy(polygons[SLOWEST][0], slowest, sizeof slowest);
+}
+
 void make_inputs(size_t swatch_count)
 {
     swatches = swatch_count;
@@ -165,4 +182,5 @@ void make_inputs(size_t swatch_count)
         crossing_points(curves[CROSSING][k], 1);
         crossing_points(curves[STEEP][k], 0);
     }
+    make_polygons();
 }

@@ -16,7 +16,8 @@ enum {
     SHEET_LINES = 200,
     SHEET_BYTES = 6 + 71 * SHEET_LINES,
     SHEETS = 8,
-    CUBES = 4
+    CUBES = 4,
+    POLYGONS = 512
 };
 
 /* Sets of curves, side 64. */
@@ -39,6 +40,22 @@ extern const struct strokes {
     int check;
 } strokes[STROKES];
 
+/* Points whose step count is chosen. */
+enum {
+    SMALL,   /* anywhere in a cube of side 8 */
+    LARGE,   /* anywhere in one of side 64 */
+    SLOWEST, /* a polygon whose search takes longest, by what `laws slowest` finds */
+    POLYGON_SETS
+};
+
+extern uint8_t polygons[POLYGON_SETS][POLYGONS][12];
+
+/* The side and the number of polygons of a set. */
+extern const struct polygon_set {
+    uint32_t side;
+    int count;
+} polygons_of[POLYGON_SETS];
+
 /* Accepted patches, side 64: set 0 with 64 × 64 steps, set 1 with 256 × 256. */
 extern uint8_t patches[2][PATCHES][48];
 
@@ -57,6 +74,9 @@ extern uint8_t sheets[2][SHEETS][SHEET_BYTES];
 extern uint8_t full_cubes[CUBES][CELLS];
 
 void make_inputs(size_t swatch_count);
+
+/* The polygons alone, the same as make_inputs makes. */
+void make_polygons(void);
 
 /* What random calls are made of. */
 void seed(uint64_t s);

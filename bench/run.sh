@@ -3,9 +3,11 @@
 #
 #     bash bench/run.sh            checks, cells that (c) gets wrong, table of times
 #     bash bench/run.sh --count    instructions of library and (a), by callgrind
+#     bash bench/run.sh --laws     what the search for a step count does, and the polygon for which it does most
 #
 # CC and CFLAGS choose the C compiler, LIB another archive than the one that is built here. BEFORE is an archive of
-# another build with the same interface, which is measured beside it. ROWS are numbers of rows, for these alone.
+# another build with the same interface, but for functions that it may lack, which is measured beside it. ROWS are numbers
+# of rows, for these alone.
 set -eu
 cd "$(dirname "$0")/.."
 cc=${CC:-gcc}
@@ -71,25 +73,39 @@ count() {
     echo "|---|---|---|---|${BEFORE:+---|---|}"
     # shellcheck disable=SC2086
     $out/bench.0 rows $rows | while IFS='|' read -r row name unit functions; do
-        own=$(collected gidzkhalu 0 "$row" "$functions")
-        same=$(collected same 1 "$row" "$functions")
         before=
         if [ -n "${BEFORE:-}" ]; then before=$(collected before 4 "$row" "$functions"); fi
+        own=$(collected gidzkhalu 0 "$row" "$functions")
+        same=$(collected same 1 "$row" "$functions")
         awk -v name="$name" -v unit="$unit" -v own="$own" -v others="$same $before" -v units="$(cat $out/units)" 'BEGIN {
             form = own / units < 1000 ? "%.1f" : "%.0f"
             printf "| %s | " form " a %s |", name, own / units, unit
             n = split(others, other, " ")
             for (k = 1; k <= n; k++)
-                printf " " form " | %.2f |", other[k] / units, own / other[k]
+                if (other[k] > 0)
+                    printf " " form " | %.2f |", other[k] / units, own / other[k]
+                else
+                    printf " none | |"
             printf "\n" }'
     done
 }
 
+# Counts by a program of its own, without the library.
+laws() {
+    # shellcheck disable=SC2086
+    $cc -std=c99 -Wall -Wextra $flags -o $out/laws bench/laws.c bench/inputs.c
+    $out/laws table
+    echo
+    $out/laws slowest 100000000
+}
+
+case ${1:-} in
+--laws) laws; exit ;;
+--count) run=count ;;
+'') run=measure ;;
+*) echo "usage: bash bench/run.sh [--count | --laws]" >&2; exit 2 ;;
+esac
 build
 describe
 echo
-case ${1:-} in
---count) count ;;
-'') measure ;;
-*) echo "usage: bash bench/run.sh [--count]" >&2; exit 2 ;;
-esac
+$run

@@ -1,6 +1,6 @@
 /* (a) The library's algorithm in C: integer forward differences of twice the value, a remainder above -N and up to N for
-   each axis, the step test on differences before the first write, which quits where the gaps are small, the same
-   refusals in the same order. */
+   each axis, the step test on differences before the first write, which quits where the gaps are small, the same search
+   for a step count, the same refusals in the same order. */
 #include <math.h>
 #include <stdbool.h>
 #include <stddef.h>
@@ -58,7 +58,7 @@ static inline bool is_long(int64_t scale, int64_t d1)
 }
 
 /* Some of the first n steps of the cubic is long. */
-static APART bool some_step_long(struct cubic c, uint32_t n, int64_t scale)
+static INLINED bool has_long_step(struct cubic c, uint32_t n, int64_t scale)
 {
     for (; n > 0; n--) {
         if (is_long(scale, c.d1))
@@ -66,6 +66,11 @@ static APART bool some_step_long(struct cubic c, uint32_t n, int64_t scale)
         next(&c);
     }
     return false;
+}
+
+static APART bool some_step_long(struct cubic c, uint32_t n, int64_t scale)
+{
+    return has_long_step(c, n, scale);
 }
 
 /* Some of the first n values of a cubic of differences is long. */
@@ -120,6 +125,59 @@ static bool step_too_long(const uint8_t *points, uint32_t n)
         if (some_step_long(start_column(points + a, n, 3), n, cubed(n)))
             return true;
     return false;
+}
+
+/* The last step on one axis is too long. It is the first of the points in reverse order. */
+static inline bool is_last_long(const uint8_t *points, uint32_t n, int64_t scale)
+{
+    struct cubic back = start(n, 2 * points[9], 2 * points[6], 2 * points[3], 2 * points[0]);
+    return is_long(scale, back.d1);
+}
+
+static inline bool is_refused(const uint8_t *points, uint32_t n)
+{
+    int64_t scale = cubed(n);
+    return is_last_long(points, n, scale) || has_long_step(start_column(points, n, 3), n, scale);
+}
+
+/* The first count from n on that one axis accepts. The most is accepted unexamined. */
+static uint32_t climb(const uint8_t *points, uint32_t n, uint32_t most)
+{
+    while (n < most && is_refused(points, n))
+        n++;
+    return n;
+}
+
+/* The largest distance from the first point to the last on an axis. */
+static inline uint32_t ends_apart(const uint8_t *points)
+{
+    int most = 0;
+    for (int a = 0; a < 3; a++) {
+        int apart = abs(points[9 + a] - points[a]);
+        if (apart > most)
+            most = apart;
+    }
+    return (uint32_t)most;
+}
+
+static inline uint32_t at_least_1(uint32_t n)
+{
+    return n == 0 ? 1 : n;
+}
+
+/* The smallest count: the axes in turn, x after z, each from the count that the one before it came to, until all three
+   stay at one. */
+static uint32_t smallest(const uint8_t *points)
+{
+    uint32_t most = at_least_1(3 * largest_gap(points)), n = at_least_1(ends_apart(points));
+    int agreed = 0;
+    for (int a = 0;; a = a == 2 ? 0 : a + 1) {
+        uint32_t m = climb(points + a, n, most);
+        agreed = m == n ? agreed + 1 : 1;
+        n = m;
+        if (agreed == 3)
+            return n;
+    }
 }
 
 /* Sample 0 on one axis: no remainder. */
@@ -353,4 +411,5 @@ static uint8_t *put_totals(uint32_t side, const uint8_t *cube, uint8_t *text)
 
 #define CALL(name) same_##name
 #include "calls.h"
+#include "chosen.h"
 #include "sheet.h"

@@ -1,6 +1,7 @@
 /* (c) What is usually written instead: float evaluation of the Bernstein form and rounding, no step test; sscanf and
-   sprintf for sheets; three nested loops and snprintf for totals. Lengths, sides, counts and marks are tried, so that no
-   write goes astray; which number refuses a swatch, a sheet or a cube is left rough. */
+   sprintf for sheets; three nested loops and snprintf for totals. What the library draws with a chosen count is drawn by its
+   other calls, on doubled counts. Lengths, sides, counts and marks are tried, so that no write goes astray; which number
+   refuses a swatch, a sheet or a cube is left rough. */
 #include <math.h>
 #include <stdbool.h>
 #include <stddef.h>
@@ -137,6 +138,32 @@ static inline float mix(float a, float b)
 
 #define CALL(name) usual_##name
 #include "calls.h"
+
+/* Chosen counts, by a caller of a library that has none: 1 step, and on 15 twice as many. 256 are enough for every
+   curve. */
+
+answer usual_choose_steps(uint32_t side, const uint8_t *points, size_t points_len)
+{
+    uint32_t n = 1;
+    answer checked = gidzkhalu_check_curve(side, points, points_len, n);
+    while (checked == -15) {
+        n *= 2;
+        checked = gidzkhalu_check_curve(side, points, points_len, n);
+    }
+    return checked < 0 ? checked : (answer)n;
+}
+
+answer usual_draw_chosen(uint32_t side, const uint8_t *points, size_t points_len, uint8_t mark, uint32_t choice,
+                         uint8_t *grid, size_t grid_len, uint32_t *new_cells)
+{
+    uint32_t n = 1;
+    answer drawn = gidzkhalu_draw_curve(side, points, points_len, n, mark, choice, grid, grid_len, new_cells);
+    while (drawn == -15) {
+        n *= 2;
+        drawn = gidzkhalu_draw_curve(side, points, points_len, n, mark, choice, grid, grid_len, new_cells);
+    }
+    return drawn;
+}
 
 /* Sheets. */
 
