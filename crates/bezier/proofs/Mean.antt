@@ -49,6 +49,15 @@ value-grows (n ∷ ns) (i ∷ is) g h le =
     (λ p hp. le (k * q + p) (in-quarter k q p hk hp)) in
     blend-grows n i (part 0 (lit< tt)) (part 1 (lit< tt)) (part 2 (lit< tt)) (part 3 (lit< tt))
 
+-- The same control values have the same values.
+pub value-same : (ns is : List ℕ) (g h : ℕ → ℕ) → ((k : ℕ) → k < points ns → g k ≡ h k) → value ns g is ≡ value ns h is
+value-same ns is g h e =
+    omega (
+      arith,
+      value-grows ns is g h (λ k l. omega (arith, e k l)),
+      value-grows ns is h g (λ k l. omega (arith, e k l)),
+    )
+
 -- Equal control values are every sample's value.
 value-constant : {ns is : List ℕ} (m : ℕ) → Sample ns is → value ns (λ k. m) is ≡ scale ns * m
 unfolding value scale

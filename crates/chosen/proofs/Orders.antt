@@ -8,9 +8,9 @@ use Prim.Native.Nat.{ℕ, _≤_}
 use native.Mathlib.Omega.{arith}
 use lib.Dec.{eqb}
 use lib.ListN.{length}
-use Rattle.decide.specs.Refusal.{accepted, refused, firstThat}
+use Rattle.decide.specs.Refusal.{accepted, firstThat}
 use Rattle.decide.proofs.Truth.{false-iff}
-use Rattle.decide.proofs.Refusal.{by-verdict, accepted-none}
+use Rattle.decide.proofs.Refusal.{by-verdict, not-both, accepted-none}
 use Rattle.cube.specs.Cube.{volume}
 use Rattle.drawing.specs.declared.Choice.{Choice}
 use Rattle.drawing.specs.Object.{Object}
@@ -97,6 +97,3 @@ module _ (S : ℕ) (points : List ℕ) (mark : ℕ) (choice : Choice) where
       by-verdict (d .verdict (length grid)) _
       (λ a. absurd (not-both (sym e ∙ accepted-as-drawn (length grid) .1 a)))
       (λ l f. sym (drawn-refused d grid f)))
-    where
-      not-both : {k : ℕ} → ¬ (refused k ≡ accepted)
-      not-both q = let z : _≡_ {A = ℕ} 0 1 = cc in omega arith

@@ -93,10 +93,14 @@ passed-over (there a f) other = (a, f)
 pub only-left : {k : ℕ} {r : Rule} → FirstApplies k (r ∷ []) → r .applies ≡ true
 only-left (here a e) = a
 
--- A call is accepted, or refused with some number.
+-- A call is accepted, or refused with some number,
 pub by-verdict : (v : Verdict) (P : Type 0) → (v ≡ accepted → P) → ((k : ℕ) → v ≡ refused k → P) → P
 by-verdict accepted P f g = f refl
 by-verdict (refused k) P f g = g k refl
+
+-- and not both.
+pub not-both : {k : ℕ} → ¬ (refused k ≡ accepted)
+not-both e = let z : _≡_ {A = ℕ} 0 1 = cc in omega arith
 
 -- What a call answers tells its verdict: a number is the verdict's, and a value is that of an accepted call.
 module _ {A : Type 0} where

@@ -52,7 +52,8 @@ row-at (suc n) is d k h =
     (λ e. rw e (getD-at (row n is) (suc n ∷ is) [] d (suc n) (length-row n is)))
     (below-or-last {i = k} {n = suc n} (omega arith))
 
-offset-below : (a : Axis) → offset a < 3
+-- A point has three coordinates.
+pub offset-below : (a : Axis) → offset a < 3
 unfolding offset
 offset-below x-axis = lit< tt
 offset-below y-axis = lit< tt
