@@ -1,0 +1,133 @@
+-- Objects with the same samples in another order: the same refusals, and drawings that do the same.
+use mathlib.Core.Path.{_≡_, sym, _∙_, ap, fun-ext, subst}
+use mathlib.Core.Logic.{_⊎_, ⊎-elim}
+use mathlib.Core.Bool.{Bool, false, not}
+use mathlib.Core.List.{List, map}
+use Prim.Native.Nat.{ℕ, _*_}
+use lib.Dec.{T, ltb, eqb}
+use lib.ListN.{length}
+use Rattle.bezier.specs.Exact.{Sample}
+use Rattle.decide.specs.Some.{someOf}
+use Rattle.decide.specs.Refusal.{firstThat}
+use Rattle.decide.proofs.Truth.{same-test}
+use Rattle.decide.proofs.Refusal.{by-verdict}
+use Rattle.neighbours.specs.Steps.{farApart, Neighbours, LongStep}
+use Rattle.neighbours.proofs.Long.{far-either-way}
+use Rattle.neighbours.proofs.Pairs.{neighbours-pairs}
+use Rattle.cube.specs.Cube.{Axis, volume, place}
+use Rattle.drawing.specs.Object.{Object, scaleOf, exact, cellOf}
+use Rattle.drawing.specs.Refusals.{countOut, coordinateOut, stepsTooLong, sampleCount, order, drawVerdict, listVerdict, checkVerdict}
+use Rattle.drawing.specs.Drawing.{cells, Drawing, drawnBy}
+use Rattle.drawing.proofs.Accepted.{steps-too-long}
+use Rattle.drawing.proofs.Drawn.{PlaceOfSample, of-sample, place-listed, drawn-refused, drawn-accepted, drawn-in-any-order}
+use Rattle.scan.specs.declared.answer.DrawAnswer.{DrawAnswer}
+use Rattle.scan.specs.Answer.{Draws}
+use Rattle.scan.proofs.Unique.{grid-unique, draw-answer-unique}
+
+-- Every sample of o is one of p, with the same exact value, and neighbours are neighbours, one way round or the other.
+pub record Among (o p : Object) : Type 0 where
+  pub scales : scaleOf o ≡ scaleOf p
+  pub to : List ℕ → List ℕ
+  pub sample : {is : List ℕ} → Sample (o .counts) is → Sample (p .counts) (to is)
+  pub value : {is : List ℕ} → Sample (o .counts) is → (a : Axis) → exact o a is ≡ exact p a (to is)
+  pub neighbours : {is js : List ℕ} → Neighbours (o .counts) is js →
+      Neighbours (p .counts) (to is) (to js) ⊎ Neighbours (p .counts) (to js) (to is)
+
+module _ {o p : Object} (w : Among o p) where
+  -- The same value has the same cell.
+  pub same-cell : {is : List ℕ} → Sample (o .counts) is → cellOf o is ≡ cellOf p (w .to is)
+  unfolding cellOf
+  same-cell s = fun-ext (λ a. rw (w .scales, w .value s a))
+
+  place-among : (S : ℕ) {q : ℕ} → PlaceOfSample S o q → PlaceOfSample S p q
+  place-among S c = record {
+    sample = w .to (c .sample);
+    is-sample = w .sample (c .is-sample);
+    at = c .at ∙ ap (place S) (same-cell (c .is-sample));
+  }
+
+  -- A step that is too long stays so.
+  far-among : (a : Axis) {is js : List ℕ} → Neighbours (o .counts) is js →
+      farApart (scaleOf o) (exact o a is) (exact o a js) ≡ farApart (scaleOf p) (exact p a (w .to is)) (exact p a (w .to js))
+  far-among a n =
+      let both = neighbours-pairs (o .counts) _ _ .0 n in
+      rw (w .scales, w .value (both .2) a, w .value (both .3) a)
+
+  long-among : (a : Axis) → LongStep (scaleOf o) (o .counts) (exact o a) → LongStep (scaleOf p) (p .counts) (exact p a)
+  long-among a l =
+      let there = subst T (far-among a (l .neighbours)) (l .far) in
+      ⊎-elim
+      (λ n. record { from = w .to (l .from); to = w .to (l .to); neighbours = n; far = there })
+      (λ n. record {
+        from = w .to (l .to);
+        to = w .to (l .from);
+        neighbours = n;
+        far = subst T (far-either-way (scaleOf p) (exact p a (w .to (l .from))) (exact p a (w .to (l .to)))) there;
+      })
+      (w .neighbours (l .neighbours))
+
+  too-long-among : T (stepsTooLong o) → T (stepsTooLong p)
+  too-long-among t = let l = steps-too-long o .0 t in steps-too-long p .1 (l .0, long-among (l .0) (l .1))
+
+-- The same samples in another order, with the same mark and choice; 13 and 14 find the same.
+pub record Reordered (o p : Object) : Type 0 where
+  pub there : Among o p
+  pub back : Among p o
+  pub mark : o .mark ≡ p .mark
+  pub choice : o .choice ≡ p .choice
+  pub counts : someOf (countOut (o .most)) (o .counts) ≡ someOf (countOut (p .most)) (p .counts)
+  pub coordinates : (S : ℕ) → someOf (coordinateOut S) (o .points) ≡ someOf (coordinateOut S) (p .points)
+  pub so-many : sampleCount (o .counts) ≡ sampleCount (p .counts)
+
+module _ {o p : Object} (w : Reordered o p) where
+  -- 15 finds the same pairs.
+  pub same-long : stepsTooLong o ≡ stepsTooLong p
+  same-long = same-test (stepsTooLong o) (stepsTooLong p) (too-long-among (w .there)) (too-long-among (w .back))
+
+  -- So every order answers the same.
+  same-order : (S : ℕ) (g m l : Bool) → firstThat (order S o g m l) ≡ firstThat (order S p g m l)
+  unfolding order
+  same-order S g m l = rw (w .counts, w .coordinates S, same-long)
+
+  pub same-draw-verdict : (S gridLength : ℕ) → drawVerdict S gridLength o ≡ drawVerdict S gridLength p
+  unfolding drawVerdict
+  same-draw-verdict S gridLength =
+      let gridWrong : Bool = not (eqb gridLength (volume S)) in
+      same-order S gridWrong (eqb (o .mark) 0) false ∙
+      ap (λ m. firstThat (order S p gridWrong (eqb m 0) false)) (w .mark)
+
+  pub same-list-verdict : (S listLength : ℕ) → listVerdict S listLength o ≡ listVerdict S listLength p
+  unfolding listVerdict
+  same-list-verdict S listLength =
+      same-order S false false (ltb listLength (3 * sampleCount (o .counts))) ∙
+      ap (λ k. firstThat (order S p false false (ltb listLength (3 * k)))) (w .so-many)
+
+  pub same-check-verdict : (S : ℕ) → checkVerdict S o ≡ checkVerdict S p
+  unfolding checkVerdict
+  same-check-verdict S = same-order S false false false
+
+-- Drawings, of whatever kind, of such objects, with the same side and the same verdicts.
+module _ (d e : Drawing) (side : d .side ≡ e .side) (verdict : (gridLength : ℕ) → d .verdict gridLength ≡ e .verdict gridLength)
+    (w : Reordered (d .object) (e .object)) where
+  -- All samples write one mark, so that their order does not matter.
+  same-grid : (grid : List ℕ) → drawnBy d grid ≡ drawnBy e grid
+  same-grid grid =
+      by-verdict (d .verdict (length grid)) _
+      (λ a. sym (drawn-in-any-order d grid a (map (place (e .side)) (cells (e .object)))
+      (λ q. (
+        λ l. rw side (place-among (w .back) (e .side) (of-sample (e .side) (e .object) l)),
+        λ s. place-listed (e .side) (e .object) (place-among (w .there) (e .side) (rw side at s)),
+      ))) ∙
+      rw (w .mark, w .choice) (sym (drawn-accepted e grid (sym (verdict (length grid)) ∙ a))))
+      (λ k r. drawn-refused d grid r ∙ sym (drawn-refused e grid (sym (verdict (length grid)) ∙ r)))
+
+  -- What the one call answers and leaves is what the other would.
+  as-the-other : {grid gridNow : List ℕ} {r : DrawAnswer} → Draws d grid gridNow r → Draws e grid gridNow r
+  as-the-other {grid} c = record {
+    answer = c .answer ∙ rw (verdict (length grid), w .so-many);
+    leaves = c .leaves ∙ same-grid grid;
+  }
+
+  pub draw-the-same : {grid one other : List ℕ} {r s : DrawAnswer} → Draws d grid one r → Draws e grid other s →
+      (r ≡ s) × (one ≡ other)
+  draw-the-same {grid} c f = (draw-answer-unique e grid (as-the-other c) f, grid-unique e grid (as-the-other c) f)
