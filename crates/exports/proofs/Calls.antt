@@ -3,11 +3,11 @@ use mathlib.Core.Path.{_≡_, refl, sym, _∙_, ap}
 use mathlib.Core.List.{List, [], _∷_}
 use Prim.Native.Nat.{ℕ, _≤_, _<_}
 use native.Mathlib.Omega.{arith}
-use lib.IntN.{ℤ}
+use lib.IntN.{ℤ, pos}
 use lib.ListN.{length}
 use borrow.Author.Tests.{ne-eqb, eq-eqb}
 use Rattle.decide.specs.Refusal as refusal
-use Rattle.decide.specs.Refusal.{Rule, _when_, Verdict, accepted, refused, Outcome, outcome, firstThat, orElse}
+use Rattle.decide.specs.Refusal.{Rule, _when_, Verdict, accepted, refused, Outcome, gives, outcome, firstThat, orElse}
 use Rattle.decide.proofs.Truth.{true-of, false-of, less}
 use Rattle.decide.proofs.Refusal.{telling-outcome, first-applies, first-passes}
 use Rattle.drawing.specs.Object.{Object}
@@ -17,8 +17,10 @@ use Rattle.drawing.specs.NewCells.{newCells}
 use Rattle.scan.specs.declared.answer.Drawn.{Drawn}
 use Rattle.scan.specs.declared.answer.DrawAnswer.{DrawAnswer}
 use Rattle.scan.specs.Answer.{drawAnswerOf, Draws}
+use Rattle.flip.specs.Flip.{exchanged}
 use Rattle.exports.specs.Signed.{minus, signedOf, signed, otherLength, ownFirst}
 use Rattle.exports.specs.Records.{noChoice, recordOrder, drawOrder, Calls, ChecksBytes, samplesOf, newCellsAfter, DrawsBytes}
+use Rattle.exports.specs.Records.{flipOrder, FlipsBytes, FlipsPatchBytes}
 
 -- A record has its length or not, and for a drawing the choice is one or not.
 module _ (size : ℕ) (bytes : List ℕ) where
@@ -140,3 +142,46 @@ module _ (size choice : ℕ) (d : Drawing) (grid : List ℕ) where
       new-outcome : (v : Verdict) (d : Drawn) (new : ℕ) → newCellsAfter (outcome v d) new ≡ refusal.leaves v (d .«new_cells») new
       new-outcome accepted d new = refl
       new-outcome (refused k) d new = refl
+
+-- A flip: the record has its length or not, and what it is written to has the same or not.
+module _ (size : ℕ) (points flipped : List ℕ) where
+  pub flip-51 : (length points ≡ size → ⊥) → firstThat (flipOrder size points flipped) ≡ refused 51
+  flip-51 w = wrong-length size points (52 when otherLength size flipped ∷ []) w
+
+  pub flip-52 : length points ≡ size → (length flipped ≡ size → ⊥) → firstThat (flipOrder size points flipped) ≡ refused 52
+  flip-52 h w =
+      past-length size points h (52 when otherLength size flipped ∷ []) ∙
+      first-applies 52 (otherLength size flipped) [] (rw (ne-eqb (length flipped) size w))
+
+  pub flip-passes : length points ≡ size → length flipped ≡ size → firstThat (flipOrder size points flipped) ≡ accepted
+  unfolding firstThat
+  flip-passes h g =
+      past-length size points h (52 when otherLength size flipped ∷ []) ∙
+      first-passes 52 (otherLength size flipped) [] (rw (eq-eqb (length flipped) size g))
+
+  module _ (flip : List ℕ → List ℕ) where
+    pub flip-refused : {k : ℕ} {r : ℤ} → firstThat (flipOrder size points flipped) ≡ refused k → r ≡ minus k →
+        FlipsBytes size flip points flipped flipped r
+    flip-refused w e = own-call (flipOrder size points flipped) accepted 0 (flip points) flipped w e
+
+    pub flip-done : {after : List ℕ} {r : ℤ} → firstThat (flipOrder size points flipped) ≡ accepted → after ≡ flip points →
+        r ≡ pos 0 → FlipsBytes size flip points flipped after r
+    flip-done w l e = passed-call (flipOrder size points flipped) accepted 0 (flip points) flipped {a = gives 0} w refl l e
+
+-- Of a patch.
+module _ (points : List ℕ) (n m : ℕ) (flipped : List ℕ) where
+  pub patch-flip-refused : {k : ℕ} {r : ℤ} → firstThat (flipOrder 48 points flipped) ≡ refused k → r ≡ minus k →
+      FlipsPatchBytes points n m n m flipped flipped r
+  patch-flip-refused w e = record {
+    call = flip-refused 48 points flipped exchanged w e;
+    along-t = sym (ap (λ u. refusal.leaves u m n) w);
+    along-u = sym (ap (λ u. refusal.leaves u n m) w);
+  }
+
+  pub patch-flip-done : {nNow mNow : ℕ} {after : List ℕ} {r : ℤ} → firstThat (flipOrder 48 points flipped) ≡ accepted →
+      after ≡ exchanged points → nNow ≡ m → mNow ≡ n → r ≡ pos 0 → FlipsPatchBytes points n m nNow mNow flipped after r
+  patch-flip-done w l t u e = record {
+    call = flip-done 48 points flipped exchanged w l e;
+    along-t = t ∙ sym (ap (λ u. refusal.leaves u m n) w);
+    along-u = u ∙ sym (ap (λ u. refusal.leaves u n m) w);
+  }

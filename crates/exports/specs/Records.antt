@@ -8,7 +8,7 @@ use lib.Dec.{ltb, eqb}
 use lib.IntN.{ℤ}
 use lib.ListN.{length}
 use Rattle.decide.specs.Refusal as refusal
-use Rattle.decide.specs.Refusal.{Rule, _when_, Verdict, Outcome, gives, refuses, telling, firstThat}
+use Rattle.decide.specs.Refusal.{Rule, _when_, Verdict, Outcome, gives, refuses, telling, accepted, firstThat}
 use Rattle.drawing.specs.declared.Choice.{Choice}
 use Rattle.drawing.specs.declared.Choice.the-variants.{Over, Under}
 use Rattle.drawing.specs.Object.{Object}
@@ -17,6 +17,7 @@ use Rattle.drawing.specs.Drawing.{Drawing, drawnBy, listed}
 use Rattle.drawing.specs.NewCells.{newCells}
 use Rattle.scan.specs.declared.answer.Drawn.{Drawn}
 use Rattle.chosen.specs.Chosen.{chosen, countVerdict}
+use Rattle.flip.specs.Flip.{exchanged}
 use Rattle.exports.specs.Signed.{signed, otherLength, ownFirst}
 
 -- 0 is over, and any other number under: 1, since 55 refuses the rest.
@@ -81,3 +82,21 @@ pub record DrawsBytes (size choice : ℕ) (d : Drawing) (grid gridNow : List ℕ
 abbrev pub ListsBytes : (size S : ℕ) (o : Object) (list listNow : List ℕ) (r : ℤ) → Type 0
 ListsBytes size S o list listNow r =
     Calls (recordOrder size (o .points)) (listVerdict S (length list) o) (sampleCount (o .counts)) (listed S o list) list listNow r
+
+-- A flip from bytes to bytes: 51 where the points have another length than such a record's, 52 where what they are written to has.
+abbrev pub flipOrder : (size : ℕ) (points flipped : List ℕ) → List Rule
+flipOrder size points flipped =
+    51 when otherLength size points ∷
+    52 when otherLength size flipped ∷
+    []
+
+-- Of a curve: 0, or minus the number; and the flip's points.
+abbrev pub FlipsBytes : (size : ℕ) (flip : List ℕ → List ℕ) (points flipped flippedNow : List ℕ) (r : ℤ) → Type 0
+FlipsBytes size flip points flipped flippedNow r =
+    Calls (flipOrder size points flipped) accepted 0 (flip points) flipped flippedNow r
+
+-- Of a patch: and the flip's step counts, which are n and m exchanged, or where it is refused what they were.
+pub record FlipsPatchBytes (points : List ℕ) (n m nNow mNow : ℕ) (flipped flippedNow : List ℕ) (r : ℤ) : Type 0 where
+  pub call : FlipsBytes 48 exchanged points flipped flippedNow r
+  pub along-t : nNow ≡ refusal.leaves (firstThat (flipOrder 48 points flipped)) m n
+  pub along-u : mNow ≡ refusal.leaves (firstThat (flipOrder 48 points flipped)) n m

@@ -3,6 +3,7 @@
 // 53 and 55, for lengths, kinds and choices that can be wrong in C alone, come before all else.
 
 mod curves;
+mod flips;
 mod listings;
 mod patches;
 mod sheets;
