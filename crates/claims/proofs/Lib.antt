@@ -4,6 +4,7 @@
 -- something. `Totals`: the totals of an accepted sheet add up. `Slits`: patches have no slits. `NewCells`: new cells
 -- are different cells, and those of a sheet add up. `Choices`: strokes that go over and strokes that go under.
 -- `Quits`: where the test of a curve quits no step is too long. `Chosen`: the count that the box chooses is the smallest.
+-- `Flips`: a flip is harmless.
 pub mod Known
 pub mod Turns
 pub mod Demand3
@@ -17,3 +18,4 @@ pub mod NewCells
 pub mod Choices
 pub mod Quits
 pub mod Chosen
+pub mod Flips
