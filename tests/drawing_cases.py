@@ -2,26 +2,29 @@
 
 `python3 tests/drawing_cases.py` writes crates/drawing_cases/stdin and stdout; with `--check` it writes nothing and exits
 with 1 if they are not what it would write; with `--count` it prints how many cases of each letter and choice got each
-answer, how many accepted drawings had all, some or none of their cells unmarked, how many of the curves listed from both
-ends have a sample exactly on a half, how many neighbours of the accepted patches have had their cells compared, for how
-many drawings a wrong count of new cells is another number or a wrong drawing leaves another grid, for how many curves the
-test quit, walked, or would have quit but for another number, to how many a wrong test would give another answer, how many
-chosen counts are three times the gap or less, and to how many calls a wrong choice would give another answer.  The forms of
-both are described in crates/drawing_cases/src.
+answer, how many accepted drawings had all, some or none of their cells unmarked, how many accepted listings have a sample
+exactly on a half, how many neighbours of the accepted patches have had their cells compared, for how many drawings a wrong
+count of new cells is another number or a wrong drawing leaves another grid, for how many curves the test quit, walked, or
+would have quit but for another number, to how many a wrong test would give another answer, how many chosen counts are three
+times the gap or less, to how many calls a wrong choice would give another answer, how many calls were made with a record
+and with its flip, with how many different records and how many that have a sample on a half, and how many calls and flips
+would show a wrong flip.  The forms of both are described in crates/drawing_cases/src.
 """
 
 import random
 import sys
 from collections import Counter
 from itertools import combinations, permutations, product
+from math import prod
 
 from model import (
-    CHESSBOARD, HALVES_IN_BOTH_ROWS, K1_TO_K11, OF_THE_COUNT, OF_THE_DRAWING, OVER, SELDOM_WRONG, UNDER, WRONG_CHECKS,
-    WRONG_CHOSEN, WRONG_WAYS, Answer, Chosen, broken_chosen_laws, broken_laws, cells, cells_with_halves_to_even, cells_with_halves_up,
-    check_curve, check_refusal, choose_steps, chosen_count, chosen_told_apart, curve, demand_3, distances_line, draw,
-    draw_chosen, enough, from_other_end, grid_of_points, list_curve, near_quitting, neighbour_distances, on_axis, patch,
-    place, places, quits, refused_by, refuses_count, row, run, samples, told_apart, unmarked, with_chosen_count,
-    with_other_choice, wrong_checks, wrong_searches,
+    CHESSBOARD, HALVES_IN_BOTH_ROWS, K1_TO_K11, OF_THE_COUNT, OF_THE_DRAWING, OVER, SELDOM_WRONG, THE_SAME_SAMPLES,
+    UNDER, WRONG_CHECKS, WRONG_CHOSEN, WRONG_FLIPS, WRONG_WAYS, Answer, Chosen, Record, broken_chosen_laws,
+    broken_laws, cells, cells_with_halves_to_even, cells_with_halves_up, check_curve, check_refusal, choose_steps,
+    chosen_count, chosen_told_apart, curve, demand_3, distances_line, draw, draw_chosen, enough, flip, grid_of_points,
+    has_half, in_reverse, is_on_half, list_curve, near_quitting, neighbour_distances, on_axis, patch, place, places,
+    quits, refused_by, refuses_count, row, run, samples, steps_too_long, told_apart, unmarked, with_chosen_count,
+    with_other_choice, wrong_checks, wrong_flips, wrong_searches,
 )  # fmt: skip
 from stored import answer_record, case_record, malformed, store
 
@@ -32,6 +35,7 @@ LONGEST_LIST = 1539
 PRIMES = 99999989, 99999959
 LARGEST = 4294967295
 MARK = 200
+FEW_SAMPLES = 200  # of the records with which wrong flips are tried
 
 
 def curve_checked(side, record, lent):
@@ -51,28 +55,16 @@ def count_chosen(side, record, lent):
     return Answer(*choose_steps(side, record), lent)
 
 
-def list_from_both_ends(side, record, lent):
-    """A listing; once more from the other end it has the same refusal, or the same cells in reverse order."""
-    there, back = (list_curve(side, end, lent) for end in (record, from_other_end(record)))
-    assert there[:2] == back[:2]
-    if there.refusal is None:
-        forwards, backwards = ([a.lent[3 * k : 3 * k + 3] for k in range(a.count)] for a in (there, back))
-        assert forwards == backwards[::-1]
-    return there
-
-
 CALLS = {
-    "D": draw, "L": list_curve, "E": list_from_both_ends, "C": curve_checked, "P": draw, "Q": patch_checked,
-    "M": count_chosen, "W": draw_chosen,
+    "D": draw, "L": list_curve, "C": curve_checked, "P": draw, "Q": patch_checked, "M": count_chosen, "W": draw_chosen,
 }  # fmt: skip
 ON_PATCHES, DRAWINGS, CHOOSING = "PQ", "DPW", "MW"
 
 
 def right_length(letter, side, n):
     """The bytes that a call asks for: a grid, a list or nothing."""
-    listed = 3 * (n + 1)
-    if letter in "LE":
-        return listed if letter == "L" else min(listed, LONGEST_LIST)
+    if letter == "L":
+        return 3 * (n + 1)
     return side**3 if letter in DRAWINGS else 0
 
 
@@ -81,7 +73,7 @@ def halves(record):
     for axis in range(3):
         values = [exact[axis] for exact in samples(record).values()]
         for (before, scale), (here, _), (after, _) in zip(values, values[1:], values[2:]):
-            if 2 * here % (2 * scale) == scale:
+            if is_on_half((here, scale)):
                 yield "xyz"[axis], "rising" if before < after else "falling" if before > after else "turning"
 
 
@@ -91,6 +83,14 @@ def holding(lent):
     return len(lent) - lent.count(0), *(number % prime for prime in PRIMES)
 
 
+def case_numbers(side, record, length, under):
+    """The numbers of a case with a record."""
+    n, m = (*record.counts, 0)[:2]
+    points = zip(*(record.coordinates[axis::3] for axis in range(3)))
+    choice = 0 if record.choice == OVER else under
+    return side, n, record.mark, length, m, choice, *(x << 16 | y << 8 | z for x, y, z in points)
+
+
 class Cases:
     """The cases and their answers so far, and what the program's buffer then holds."""
 
@@ -98,7 +98,7 @@ class Cases:
         self.buffer = bytearray(BUFFER)
         self.records = []
         self.answered = Counter()
-        self.halves = Counter()  # the accepted curves listed from both ends, by where they have a sample on a half
+        self.halves = Counter()  # the accepted listings, by where they have a sample on a half
         self.distances = Counter()  # of the cells of neighbours in accepted patches
         self.unmarked = Counter()  # the accepted drawings, by letter, choice and which of their cells were unmarked
         self.told = Counter()  # the accepted drawings, by the wrong ways that give another number or grid
@@ -106,6 +106,9 @@ class Cases:
         self.checks_told = Counter()  # the calls with a curve, by the wrong checks that give another answer, and letter
         self.chosen = Counter()  # the calls that choose a count, by letter and how it lies to three times the gap
         self.chosen_told = Counter()  # the calls that choose a count, by the wrong ways that answer otherwise, and letter
+        self.records_called = {letter: set() for letter in CALLS}  # the sides and records of the calls with a record
+        self.on_half = Counter()  # the accepted calls with a record that has a sample on a half, by letter
+        self.flips_told = Counter()  # the calls and flips, by letter, number of parameters and wrong flip that they show
 
     def add(self, letter, numbers, answer, kind, form="d"):
         """One case with its answer."""
@@ -130,14 +133,12 @@ class Cases:
 
         Under is stored as the given number, any but 0.
         """
-        n, *m = record.counts
-        length = right_length(letter, side, n) if length is None else length
+        called = record
+        length = right_length(letter, side, record.counts[0]) if length is None else length
         lent = bytes(self.buffer[:length])
         answer = CALLS[letter](side, record, lent)
         self.buffer[:length] = answer.lent
-        points = zip(*(record.coordinates[axis::3] for axis in range(3)))
-        choice = 0 if record.choice == OVER else under
-        numbers = (side, n, record.mark, length, *(m or (0,)), choice, *(x << 16 | y << 8 | z for x, y, z in points))
+        numbers = case_numbers(side, record, length, under)
         drawn = letter in DRAWINGS and answer.refusal is None
         said = ("A", answer.count) if answer.refusal is None else ("R", answer.refusal)
         held = answer.new if drawn else 0, *holding(answer.lent)
@@ -157,17 +158,46 @@ class Cases:
             kind = "none" if answer.new == 0 else "all" if answer.new == len(places(side, record)) else "some"
             self.unmarked[letter, record.choice, kind] += 1
             self.told.update(told_apart(side, record, lent, answer))
-        if letter == "E" and answer.refusal is None:
+        if letter == "L" and answer.refusal is None:
             found = {*halves(record)}
             self.halves.update(found | ({("any axis", "any way")} if found else set()))
         if letter in ON_PATCHES and answer.refusal is None:
             self.distances.update(neighbour_distances(record, cells(record)))
+        self.on_half[letter] += answer.refusal is None and letter != "M" and has_half(record)
+        self.call_flips(letter, side, called, lent, answer)
         return answer
+
+    def call_flips(self, letter, side, record, lent, answer):
+        """The call with the record's flip agrees; which wrong flips would not, where a record has few samples."""
+        expected = in_reverse(answer) if letter == "L" else answer
+        assert CALLS[letter](side, flip(record), lent) == expected, record
+        self.records_called[letter].add((side, record))
+        if letter in CHOOSING or answer.refusal is None and prod(n + 1 for n in record.counts) > FEW_SAMPLES:
+            return
+        for way, wrong in wrong_flips(record).items():
+            if letter == "L" or way not in THE_SAME_SAMPLES[len(record.counts)]:
+                self.flips_told[letter, len(record.counts), way] += CALLS[letter](side, wrong, lent) != expected
+
+    def flip(self, record, length=None, under=1):
+        """The flip of a record, its points written to the lent bytes, by default as many as there are; the flip."""
+        letter = "V" if len(record.counts) == 1 else "X"
+        length = len(record.coordinates) if length is None else length
+        flipped = flip(record)
+        written = bytes(flipped.coordinates)[:length]
+        self.buffer[: len(written)] = written
+        n, m = (*flipped.counts, 0)[:2]
+        mark = flipped.mark + (0 if flipped.choice == OVER else 256)
+        answer = letter, (n, m, mark, *holding(bytes(self.buffer[:length]))[1:])
+        self.add(letter, case_numbers(0, record, length, under), answer, record.choice, "x")
+        if length >= len(record.coordinates):
+            for way, wrong in wrong_flips(record).items():
+                self.flips_told[letter, len(record.counts), way] += wrong != flipped
+        return flipped
 
     def count_test(self, letter, side, record, refusal):
         """Whether the test of a curve quit; which wrong checks answer otherwise, or let pass what is refused with 15."""
         right = check_curve(side, record)
-        assert quits(record) == quits(from_other_end(record)) and not (refusal == 15 and quits(record)), record
+        assert not (refusal == 15 and quits(record)), record
         if refusal is None:
             self.tested[letter, "quit" if right.quit else "walked"] += 1
         elif quits(record):
@@ -246,7 +276,7 @@ FAULTS = {
     14: ({"z": 8}, {"z": 255}),
     15: ({"x": 2}, {"x": 7}),
 }
-ORDERS = {"D": (11, 21, 12, 13, 14, 15), "L": (11, 13, 22, 14, 15), "C": (11, 13, 14, 15), "E": (11, 13, 22, 14, 15)}
+ORDERS = {"D": (11, 21, 12, 13, 14, 15), "L": (11, 13, 22, 14, 15), "C": (11, 13, 14, 15)}
 PATCH_FAULTS = {**FAULTS, 13: ({"n": 257}, {"m": 0})}
 PATCH_ORDERS = {"P": ORDERS["D"], "Q": ORDERS["C"]}
 
@@ -424,7 +454,7 @@ def random_record(dice, letter, side):
 def random_call(cases, dice, letter, side):
     """A call of a random object, in about every seventh case with a fault, which the call may be free to ignore."""
     points, counts, mark, choice = random_record(dice, letter, side)
-    length = right_length(letter, side, counts[0]) + (dice.choice((0, 0, 1, 7)) if letter in "LE" else 0)
+    length = right_length(letter, side, counts[0]) + (dice.choice((0, 0, 1, 7)) if letter == "L" else 0)
     fault = dice.randrange(42)
     which = dice.randrange(len(counts))
     if fault == 0:
@@ -440,8 +470,7 @@ def random_call(cases, dice, letter, side):
     if fault == 5:
         counts[which] = max(1, counts[which] // 3)
     make = patch if letter in ON_PATCHES else curve
-    length = min(length, LONGEST_LIST if letter == "E" else BUFFER)
-    cases.call(letter, side, make(points, *counts, mark, choice), length)
+    cases.call(letter, side, make(points, *counts, mark, choice), min(length, BUFFER))
 
 
 def random_calls(cases, dice):
@@ -470,34 +499,27 @@ def with_a_half(dice, side):
             return record
 
 
-def both_ends(cases, dice):
-    """Curves listed from both ends: K1 to K11, the ends of the ranges, lines through halves, and random ones."""
+def listings(cases, dice):
+    """Curves listed: K1 to K11, the ends of the ranges, lines through halves, and random ones."""
     cases.fill(LONGEST_LIST, 29, 5)
     for axis, (_, points, n, _, refusal) in product(range(3), K1_TO_K11):
-        assert cases.call("E", 8, curve(on_axis(axis, points), n, MARK)).refusal == refusal
-    for side in 0, 1, 2, 3, 63, 64, 65, LARGEST:
-        cases.call("E", side, curve([min(max(side - 1, 0), 255)] * 12, 1, MARK))
+        assert cases.call("L", 8, curve(on_axis(axis, points), n, MARK)).refusal == refusal
     for n, points in product((0, 1, 2, 511, 512, 513, LARGEST), (on_axis(2, (0, 63, 0, 63)), [63, 0, 31] * 4)):
-        cases.call("E", 64, curve(points, n, MARK))
-    for n in 1, 6, 170, 512:
-        record = curve(on_axis(1, (0, 1, 2, 3)) if n > 1 else [2] * 12, n, 0)
-        for length in 0, 1, 3 * n, 3 * n + 2, 3 * n + 3, min(3 * n + 4, LONGEST_LIST):
-            cases.call("E", 4, record, length)
+        cases.call("L", 64, curve(points, n, MARK), LONGEST_LIST)
     for side, low in (4, 0), (5, 1), (33, 14), (64, 0), (64, 60):
         line = [low, low + 1, low + 2, low + 3]
         for axes, n in product(permutations((line, line[::-1], [low] * 4)), (2, 4, 6, 18, 54, 512)):
-            cases.call("E", side, curve([c for point in zip(*axes) for c in point], n, MARK))
+            cases.call("L", side, curve([c for point in zip(*axes) for c in point], n, MARK))
     for by, axis, times in product((2, 5, 7, 13, 21), range(3), (3, 4, 6, 12)):
         lines = [[0, by, 2 * by, 3 * by] if axis == a else [3 * by, 2 * by, by, 0] for a in range(3)]
-        cases.call("E", 3 * by + 1, curve([c for point in zip(*lines) for c in point], times * by, MARK))
+        cases.call("L", 3 * by + 1, curve([c for point in zip(*lines) for c in point], times * by, MARK))
     for group in range(17 * 63):
         side = 2 + group % 63
-        cases.call("E", side, with_a_half(dice, side))
-        random_call(cases, dice, "E", side)
-    listed = sum(count for (letter, _), count in cases.answered.items() if letter == "E")
+        cases.call("L", side, with_a_half(dice, side))
+        random_call(cases, dice, "L", side)
     for choice in CHOICES:
-        assert cases.answered["E", f"{choice} accepted"] >= 900, cases.answered
-    assert listed >= 2400 and cases.halves["any axis", "any way"] >= 1000, (listed, cases.halves)
+        assert cases.answered["L", f"{choice} accepted"] >= 900, cases.answered
+    assert cases.halves["any axis", "any way"] >= 1000, cases.halves
     assert all(cases.halves[axis, way] >= 250 for axis, way in product("xyz", ("rising", "falling"))), cases.halves
 
 
@@ -642,10 +664,10 @@ def mixed_lists(cases, dice):
 
 
 def choice_ignored(cases):
-    """K1 to K11 and K12 listed, listed from both ends and checked, under."""
+    """K1 to K11 and K12 listed and checked, under."""
     cases.fill(LONGEST_LIST, 31, 7)
     for k, (_, points, n, _, refusal) in enumerate(K1_TO_K11):
-        for letter in "LEC":
+        for letter in "LC":
             assert cases.call(letter, 8, curve(on_axis(k % 3, points), n, MARK, UNDER)).refusal == refusal
     k12 = patch(grid_of_points(lambda i, j: (i + j, 0, 0)), 4, 4, MARK, UNDER)
     assert cases.call("Q", 8, k12).refusal is None
@@ -1024,11 +1046,119 @@ def choosing(cases, dice):
                 assert cases.chosen_told[way, letter] >= least, (way, letter, cases.chosen_told)
 
 
+def k3_and_k4(cases):
+    """K3 and K4, each the other's flip, on each axis and of both choices: drawn, listed and flipped, all of it shown."""
+    for axis, choice in product(range(3), CHOICES):
+        k3, k4 = (curve(on_axis(axis, points), 6, MARK, choice) for points in ((0, 1, 2, 3), (3, 2, 1, 0)))
+        for record, other, expected in (k3, k4, (0, 0, 1, 1, 2, 2, 3)), (k4, k3, (3, 2, 2, 1, 1, 0, 0)):
+            cases.fill(512, 0, 128)
+            assert cases.call("D", 8, record).refusal is None
+            cases.show(0, 8**axis)
+            cases.fill(32, 17, 3)
+            assert cases.call("L", 8, record, 32).lent[axis:21:3] == bytes(expected)
+            cases.show()
+            cases.show(16)
+            assert cases.flip(record) == other
+            cases.show()
+
+
+def flipped_records(cases, dice):
+    """Flips, and flips of flips: points that count up or down, a single coordinate, and any; any counts and lengths."""
+    for parameters in 1, 2:
+        size = 3 * 4**parameters
+        points = [range(size), range(255, 255 - size, -1)]
+        points += [[255 if k == at else 0 for k in range(size)] for at in range(size)]
+        for below in 2, 8, 64, 256:
+            points += [[dice.randrange(below) for _ in range(size)] for _ in range(50)]
+        cases.fill(256, 7, 5)
+        for k, coordinates in enumerate(points):
+            some = 0, 1, 2, 7, 256, 257, 512, 513, LARGEST, dice.randrange(1 << 32)
+            counts = tuple(dice.choice(some) for _ in range(parameters))
+            record = Record(tuple(coordinates), counts, (k + 255) % 256, CHOICES[k % 2])
+            assert cases.flip(cases.flip(record), under=dice.choice((1, 2, 256, LARGEST))) == record
+            if k % 8 < 2:
+                for at in range(0, size, 16):
+                    cases.show(at)
+        for length in 0, 1, 2, 3, 11, 12, 13, 47, 48, 49, 256:
+            cases.fill(256, length, 3)
+            cases.flip(record, length)
+            for at in range(0, 64, 16):
+                cases.show(at)
+
+
+def turned_curve(call):
+    """A curve that stays in cell 0 but for x of its first point and z of its third."""
+    return curve([call["x"], *[0] * 7, call["z"], 0, 0, 0], call["n"], call["mark"], call["choice"])
+
+
+def turned_patch(call):
+    """A patch that stays in cell 0 but for x of g(0, 3) and z of g(3, 0), with m twice as given."""
+    coordinates = grid_of_points(lambda i, j: (call["x"] * ((i, j) == (0, 3)), 0, call["z"] * ((i, j) == (3, 0))))
+    return patch(coordinates, call["n"], 2 * call["m"], call["mark"], call["choice"])
+
+
+def patch_with_a_half(dice, side):
+    """A patch of either choice with two unequal counts that fit, some sample of which lies on a half."""
+    while True:
+        spread = dice.randrange(1, min(side, 4))
+        low = [dice.randrange(side - spread) for _ in range(3)]
+        points = [low[k % 3] + dice.choice((0, spread, dice.randrange(spread + 1))) for k in range(48)]
+        n, m = dice.sample(range(2 * spread, 4 * spread + 4, 2), 2)
+        record = patch(points, n, m, dice.randrange(1, 256), dice.choice(CHOICES))
+        if not steps_too_long(record) and has_half(record):
+            return record
+
+
+def drawn_both_ways(cases, dice):
+    """At every side, in turn into empty, full and partly marked grids: curves and patches with a sample on a half."""
+    for group in range(2 * 63):
+        side, step = 2 + group % 63, dice.choice((16, 32, 64, 128))
+        fillings = (0, 0), (dice.randrange(1, 256), 0), (step * dice.randrange(256), step)
+        cases.fill(side**3, *fillings[group // 2 % 3])
+        for letter in "DPPDPP":
+            with_half = patch_with_a_half if letter in ON_PATCHES else with_a_half
+            cases.call(letter, side, with_half(dice, side)._replace(mark=dice.randrange(1, 256)))
+        for letter in "PQC":
+            random_call(cases, dice, letter, side)
+        cases.show(dice.randrange(side**3))
+
+
+def flips(cases, dice):
+    """Records and their flips; enough of each was met."""
+    k3_and_k4(cases)
+    flipped_records(cases, dice)
+    refusals(cases, ORDERS, FAULTS, turned_curve)
+    refusals(cases, PATCH_ORDERS, PATCH_FAULTS, turned_patch)
+    drawn_both_ways(cases, dice)
+    for letter in "DP":
+        assert len(cases.records_called[letter]) >= 1000 and cases.on_half[letter] >= 400, (letter, cases.on_half)
+    for parameters, letters in (1, "DLCV"), (2, "PQX"):
+        for way, letter in product(WRONG_FLIPS[parameters], letters):
+            if letter in "LVX" or way not in THE_SAME_SAMPLES[parameters]:
+                alike = (letter, way) == ("C", "x, y and z in reverse too")  # a check takes the axes alike
+                least = 0 if alike else 50 if letter == "Q" else 300
+                assert cases.flips_told[letter, parameters, way] >= least, (letter, way, cases.flips_told)
+
+
+def flip_lines(cases):
+    """How often a call was made with a record and with its flip, and what would show a wrong flip."""
+    for letter in CALLS:
+        calls = sum(count for (called, _), count in cases.answered.items() if called == letter)
+        different, halves = len(cases.records_called[letter]), cases.on_half[letter]
+        yield f"{letter} with a record and with its flip: {calls} calls, {different} different; accepted with a half: {halves}"
+    for way in WRONG_FLIPS[1]:
+        drawings, listed, checks, flipped = (cases.flips_told[letter, 1, way] for letter in "DLCV")
+        told = f"{drawings} drawings, {listed} listings, {checks} checks and {flipped} flips"
+        yield f"a curve flipped wrongly, {way}: seen by {told}"
+    for way in WRONG_FLIPS[2]:
+        drawings, checks, flipped = (cases.flips_told[letter, 2, way] for letter in "PQX")
+        yield f"a patch flipped wrongly, {way}: seen by {drawings} drawings, {checks} checks and {flipped} flips"
+
+
 def no_cases(cases):
     """Records that are no case, of another form or lent more than there is; and bytes shown past the buffer's end."""
     first = cases.records[0][0]
-    longer = [case_record(letter, (2, 1, MARK, BUFFER + 1), NUMBERS) for letter in "FDLPW"]
-    longer.append(case_record("E", (2, 1, MARK, LONGEST_LIST + 1), NUMBERS))
+    longer = [case_record(letter, (2, 1, MARK, BUFFER + 1), NUMBERS) for letter in "FDLPWVX"]
     for case in *malformed(first), first[:-1] + " ", *longer:
         cases.records.append((case, answer_record("B", (), "d", ANSWERS)))
     cases.fill(8, 1, 1)
@@ -1045,7 +1175,7 @@ def main():
     refusals(cases, ORDERS, FAULTS, faulty_curve)
     refusals(cases, PATCH_ORDERS, PATCH_FAULTS, faulty_patch)
     random_calls(cases, random.Random(2))
-    both_ends(cases, random.Random(3))
+    listings(cases, random.Random(3))
     for choice in CHOICES:
         for part in into_empty, into_bytes, refused_from_empty, planes_of_the_largest_cube:
             part(cases, choice)
@@ -1054,6 +1184,7 @@ def main():
     mixed_lists(cases, random.Random(4))
     quitting(cases, random.Random(5))
     choosing(cases, random.Random(6))
+    flips(cases, random.Random(7))
     no_cases(cases)
     assert all(distance <= 1 for _, distance in cases.distances), cases.distances
     kinds = product(DRAWINGS, CHOICES, ("all", "some", "none"))
@@ -1065,7 +1196,7 @@ def main():
         for (letter, choice, kind), count in sorted(cases.unmarked.items()):
             print(f"{letter} {choice} accepted, cells unmarked before: {kind}", count)
         for (axis, way), count in sorted(cases.halves.items()):
-            print("E accepted, a sample on a half:", axis, way, count)
+            print("L accepted, a sample on a half:", axis, way, count)
         print(distances_line(cases.distances))
         for choice, what, way in WRONG_WAYS:
             count = cases.told[choice, what, way]
@@ -1076,13 +1207,15 @@ def main():
         for (letter, end), count in sorted(cases.tested.items()):
             print(f"{letter}, the test of the curve: {end}", count)
         for way in WRONG_CHECKS:
-            checks, passed = cases.checks_told[way, "C"], sum(cases.checks_told[way, letter] for letter in "DLE")
+            checks, passed = cases.checks_told[way, "C"], sum(cases.checks_told[way, letter] for letter in "DL")
             print(f"checked wrongly, {way}: another answer to {checks} checks, and to {passed} drawings and listings")
         for (letter, kind), count in sorted(cases.chosen.items()):
             print(f"{letter} accepted, the chosen count: {kind}", count)
         for way in WRONG_CHOSEN:
             counts, drawings = (cases.chosen_told[way, letter] for letter in CHOOSING)
             print(f"chosen wrongly, {way}: another answer to {counts} counts and to {drawings} drawings")
+        for said in flip_lines(cases):
+            print(said)
         print(len(cases.records), "records")
         return 0
     return store("drawing_cases", cases.records)

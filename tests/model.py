@@ -3,7 +3,7 @@
 Whole numbers and fractions are exact throughout; there are no differences and no remainders here.  Imported, the module
 gives the expected answers of test programs.  Run as `python3 tests/model.py`, it checks itself on the documents' samples
 and exits with 1 if a check fails.  Quoted words are document 01's, for demand 3 also the demand's own, and for cells of
-samples, neighbours, hues, totals, new cells, choices, the test that quits and chosen counts document 02's.
+samples, neighbours, hues, totals, new cells, choices, the test that quits, chosen counts and flips document 02's.
 """
 
 import random
@@ -50,10 +50,17 @@ def patch(coordinates, n, m, mark, choice=OVER):
     return Record(tuple(coordinates), (n, m), mark, choice)
 
 
-def from_other_end(record):
-    """A curve redrawn "from its other end": its points in reverse order."""
-    points = [record.coordinates[k : k + 3] for k in range(0, 12, 3)]
-    return record._replace(coordinates=tuple(c for point in reversed(points) for c in point))
+def with_points(record, numbers):
+    """The record with the points of these numbers, in turn, in place of its own."""
+    return record._replace(coordinates=tuple(c for k in numbers for c in record.coordinates[3 * k : 3 * k + 3]))
+
+
+def flip(record):
+    """A curve "with its four points in reverse order"; a patch "with i and j exchanged, n and m exchanged"."""
+    if len(record.counts) == 1:
+        return with_points(record, (3, 2, 1, 0))
+    n, m = record.counts
+    return with_points(record, [4 * j + i for i in range(4) for j in range(4)])._replace(counts=(m, n))
 
 
 def with_other_choice(record):
@@ -86,20 +93,23 @@ def weights(counts, indices):
     return [prod(factors) for factors in product(*along)]
 
 
+def blended(shares, controls):
+    """The sum of the control points of one axis, each times its weight."""
+    return sum(w * g for w, g in zip(shares, controls, strict=True))
+
+
 def value(counts, indices, controls):
     """The "exact value B / N" of one axis at one sample, for any number of parameters, as (B, N)."""
-    blended = sum(w * g for w, g in zip(weights(counts, indices), controls, strict=True))
-    return blended, scale(counts)
+    return blended(weights(counts, indices), controls), scale(counts)
 
 
 @of_points_and_counts
 def samples(record):
     """The exact x, y, z of every sample of a record, by its indices (i,) or (i, j)."""
-    controls = [record.coordinates[axis::3] for axis in range(3)]
-    return {
-        indices: tuple(value(record.counts, indices, axis) for axis in controls)
-        for indices in product(*(range(n + 1) for n in record.counts))
-    }
+    controls, whole = [record.coordinates[axis::3] for axis in range(3)], scale(record.counts)
+    every = product(*(range(n + 1) for n in record.counts))
+    shares = ((indices, weights(record.counts, indices)) for indices in every)
+    return {indices: tuple((blended(of_points, axis), whole) for axis in controls) for indices, of_points in shares}
 
 
 def neighbours(record):
@@ -1215,6 +1225,69 @@ def broken_laws(side, record, grid, answer):
     return [law for law, holds in laws.items() if not holds]
 
 
+def in_reverse(listing):
+    """A listing's answer with "the same cells in reverse", the rest of the list and a refusal as they are."""
+    if listing.refusal is not None:
+        return listing
+    end = 3 * listing.count
+    return listing._replace(lent=b"".join(listing.lent[k - 3 : k] for k in range(end, 0, -3)) + listing.lent[end:])
+
+
+def is_on_half(exact):
+    """Whether a value lies exactly on a half, where two cells are as near."""
+    blended, n = exact
+    return 2 * blended % (2 * n) == n
+
+
+def has_half(record):
+    """Whether some sample of a record lies on a half on some axis."""
+    return any(is_on_half(coordinate) for exact in samples(record).values() for coordinate in exact)
+
+
+WRONG_FLIPS = {  # by the number of parameters, what a program may take for the flip of a record
+    1: {
+        "not at all": lambda record: record,
+        "points 1 and 2 left": lambda record: with_points(record, (3, 1, 2, 0)),
+        "points 0 and 3 left": lambda record: with_points(record, (0, 2, 1, 3)),
+        "x, y and z in reverse too": lambda record: record._replace(coordinates=record.coordinates[::-1]),
+    },
+    2: {
+        "not at all": lambda record: record,
+        "n and m left": lambda record: flip(record)._replace(counts=record.counts),
+        "i and j left": lambda record: record._replace(counts=record.counts[::-1]),
+        "i in reverse": lambda record: with_points(record, [4 * (3 - i) + j for i in range(4) for j in range(4)]),
+        "j in reverse": lambda record: with_points(record, [4 * i + 3 - j for i in range(4) for j in range(4)]),
+        "i and j in reverse": lambda record: with_points(record, range(15, -1, -1)),
+    },
+}
+
+
+# By these a drawing or a check has the same samples, in another order: a listing, or the flip itself, tells them.
+THE_SAME_SAMPLES = {1: ["not at all"], 2: ["not at all", "i in reverse", "j in reverse", "i and j in reverse"]}
+
+
+def wrong_flips(record):
+    """What each wrong way takes for the flip of a record."""
+    return {way: flipped(record) for way, flipped in WRONG_FLIPS[len(record.counts)].items()}
+
+
+def calls_apart(side, record, other, grid, lent):
+    """The calls that do not agree with a record and with another in place of its flip, lent the same bytes."""
+    if draw(side, other, grid) != draw(side, record, grid):
+        yield "drawing"
+    if check_refusal(side, other) != check_refusal(side, record):
+        yield "check"
+    if len(record.counts) == 1:
+        if list_curve(side, other, lent) != in_reverse(list_curve(side, record, lent)):
+            yield "listing"
+        if check_curve(side, other) != check_curve(side, record):
+            yield "check of a curve"
+        if choose_steps(side, other) != choose_steps(side, record):
+            yield "chosen count"
+        if draw_chosen(side, other, grid) != draw_chosen(side, record, grid):
+            yield "drawing with a chosen count"
+
+
 def grid_of_points(coordinate):
     """Sixteen points, where coordinate(i, j) gives x y z of g(i, j)."""
     return [c for i in range(4) for j in range(4) for c in coordinate(i, j)]
@@ -1319,9 +1392,8 @@ def check_cells(checks):
     dice = random.Random(6)
     for _ in range(100):
         record = curve([dice.randrange(8) for _ in range(12)], dice.randrange(1, 40), 1)
-        back = row(cells(from_other_end(record)))
+        back = row(cells(flip(record)))
         checks.equal(group, f"from the other end {record}", back, row(cells(record))[::-1])
-        checks.equal(group, f"flipped twice {record}", from_other_end(from_other_end(record)), record)
 
 
 def check_neighbours(checks):
@@ -1798,7 +1870,6 @@ def check_choices(checks):
         listed = list_curve(8, record, bytes([77]) * 60)
         checks.equal(group, f"{name}, listing", listed, list_curve(8, with_other_choice(record), bytes([77]) * 60))
         checks.equal(group, f"{name}, drawing", checks.draw(group, 8, record, bytes(512)).refusal, refusal)
-        checks.equal(group, f"{name}, the other end keeps the choice", from_other_end(record).choice, UNDER)
     checks.equal(group, "a sheet's line", line_curve(format_line(9, 3, *line)), curve(line, 3, 9, OVER))
 
 
@@ -1889,7 +1960,7 @@ def check_quitting(checks):
         checks.equal(group, f"from three times the gap on, {record}", quits(record), n >= 3 * gap)
         checks.equal(group, f"the rule itself, {record}", quits_by(record), quits(record))
         checks.equal(group, f"no long step where it quits, {record}", quits(record) and steps_too_long(record), False)
-        checks.equal(group, f"from the other end, {record}", check_curve(side, from_other_end(record)), answer)
+        checks.equal(group, f"from the other end, {record}", check_curve(side, flip(record)), answer)
         answered[answer] += 1
         told.update(way for way, wrong in wrong_checks(side, record).items() if wrong != answer)
     often = {answer for answer, count in answered.items() if count >= 60}
@@ -2020,7 +2091,7 @@ def check_chosen(checks):
                 answer = draw_chosen(called, record, grid)
                 checks.equal(group, f"list {number}, call {k}", broken_chosen_laws(called, record, grid, answer), [])
                 checks.equal(group, f"list {number}, call {k}, grid", answer.lent, grids[k + 1])
-                counted, back = choose_steps(called, record), choose_steps(called, from_other_end(record))
+                counted, back = choose_steps(called, record), choose_steps(called, flip(record))
                 checks.equal(group, f"list {number}, call {k}, from the other end", back, counted)
                 if answer.refusal is None:
                     checks.equal(group, f"list {number}, call {k}, count", answer.count, counted.steps + 1)
@@ -2030,6 +2101,61 @@ def check_chosen(checks):
     ways = [way for way in (*WRONG_SEARCHES, *WRONG_OWN, *WRONG_CHOICES) if way not in SELDOM_WRONG]
     few = {way: told[way] for way in ways if told[way] < 2}
     checks.equal(group, f"wrong ways told apart by 2 calls or more: {told}", few, {})
+
+
+def check_flips(checks):
+    """Flips by name, K3 and K4 with the cells of either document, and every call with random records and their flips."""
+    group = "flips"
+    numbered = range(12)
+    turned = curve((9, 10, 11, 6, 7, 8, 3, 4, 5, 0, 1, 2), 7, 9, UNDER)
+    checks.equal(group, "a curve", flip(curve(numbered, 7, 9, UNDER)), turned)
+    exchanged = [3 * k + axis for k in (0, 4, 8, 12, 1, 5, 9, 13, 2, 6, 10, 14, 3, 7, 11, 15) for axis in range(3)]
+    checks.equal(group, "a patch", flip(patch(range(48), 7, 8, 9, UNDER)), patch(exchanged, 8, 7, 9, UNDER))
+    known = {name: expected for name, _, _, expected, _ in K1_TO_K11}
+    checks.equal(group, "K3 and K4, document 02", known["K4"], known["K3"][::-1])
+    checks.equal(group, "K3 and K4, document 01", (3, 3, 2, 2, 1, 1, 0) == known["K3"][::-1], False)
+    for axis in range(3):
+        k3, k4 = (curve(on_axis(axis, points), 6, 9) for points in ((0, 1, 2, 3), (3, 2, 1, 0)))
+        checks.equal(group, f"K3's flip is K4, axis {axis}", (flip(k3), flip(k4)), (k4, k3))
+        checks.equal(group, f"K3 and K4, axis {axis}", [*calls_apart(8, k3, k4, bytes(512), bytes(21))], [])
+    dice = random.Random(12)
+    refused, told, halves = Counter(), Counter(), Counter()
+    for number in range(900):
+        side = dice.choice((2, 3, 4, 5, 8, 13))
+        record = random_record(dice, side)
+        if number % 4 < 2:  # points near one another and even counts, which make for samples on a half; some counts are 0
+            parameters = 1 + number % 2
+            coordinates = tuple(dice.randrange(min(side, 4)) for _ in range(3 * 4**parameters))
+            counts = tuple(2 * dice.randrange(6) for _ in range(parameters))
+            record = Record(coordinates, counts, 1 + number % 255, dice.choice((OVER, UNDER)))
+        called = dice.choice((0, 1, 65, side + 1)) if dice.randrange(20) == 0 else side
+        grid, lent = random_grid(dice, side), dice.randbytes(dice.choice((3, 30, 90, 180)))
+        label, parameters = f"{number}, side {called}, {record}", len(record.counts)
+        checks.equal(group, f"twice, {label}", flip(flip(record)), record)
+        apart = [*calls_apart(called, record, flip(record), grid, lent)]
+        checks.equal(group, f"calls that do not agree, {label}", apart, [])
+        refusal = draw(called, record, grid).refusal
+        refused[parameters, refusal] += 1
+        if refusal is None:
+            there, back = samples(record), samples(flip(record))
+            others = {at: (record.counts[0] - at[0],) if parameters == 1 else at[::-1] for at in there}
+            checks.equal(group, f"samples, {label}", there, {at: back[other] for at, other in others.items()})
+            halves[parameters] += has_half(record)
+        if parameters == 1:
+            refused["listing", list_curve(called, record, lent).refusal] += 1
+        for way, wrong in wrong_flips(record).items():
+            told.update((parameters, way, call) for call in calls_apart(called, record, wrong, grid, lent))
+    drawn, listed = {None, 11, 21, 12, 13, 14, 15}, {None, 11, 13, 22, 14, 15}
+    for kind, expected in (1, drawn), (2, drawn), ("listing", listed):
+        found = {number for which, number in refused if which == kind}
+        checks.equal(group, f"every answer: {refused}", found, expected)
+    checks.equal(group, f"50 curves and 50 patches or more with a half: {halves}", min(halves[1], halves[2]) >= 50, True)
+    for parameters, ways in WRONG_FLIPS.items():
+        for way in ways:
+            same, seen = way in THE_SAME_SAMPLES[parameters], told[parameters, way, "drawing"]
+            checks.equal(group, f"{way} seen by drawings: {told}", seen == 0 if same else seen >= 15, True)
+            if parameters == 1:
+                checks.equal(group, f"{way} seen by listings: {told}", told[1, way, "listing"] >= 15, True)
 
 
 def check_demand_3_can_fail(checks):
@@ -2182,6 +2308,7 @@ def self_check():
         check_choices,
         check_quitting,
         check_chosen,
+        check_flips,
         check_demand_3_can_fail,
         check_random_calls,
     ):

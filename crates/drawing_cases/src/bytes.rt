@@ -1,4 +1,4 @@
-// The filling and the showing of bytes.
+// The filling, the showing and the copying of bytes.
 ghost use mathlib.Core.Path.{_≡_};
 ghost use Prim.Native.Nat.{_^_, _≤_, _<_};
 ghost use lib.ListN.{length};
@@ -54,5 +54,14 @@ fn byte_at(buffer: &[u8], place: usize) -> u64
         wide(buffer[place])
     } else {
         0
+    }
+}
+
+// Copies bytes, as many as there are and as there is room for.
+pub(crate) fn copy(from: &[u8], to: &mut [u8]) {
+    let mut i = 0;
+    while i < from.len() && i < to.len() {
+        to[i] = from[i];
+        i += 1;
     }
 }

@@ -2,8 +2,7 @@
 ghost use mathlib.Core.Path.{_≡_};
 ghost use Prim.Native.Nat.{_≤_};
 ghost use lib.ListN.{length};
-use crate::answer::Answer;
-use crate::answer::holding;
+use both_ways::Said;
 use cases::bytes::low_byte;
 use cases::record::number;
 use chosen::CountAnswer;
@@ -15,44 +14,68 @@ use patch::Patch;
 use scan::answer::DrawAnswer;
 use scan::answer::ListAnswer;
 
-// What a drawing answered, and what its grid holds.
-pub(crate) fn drawn(answer: DrawAnswer, grid: &[u8]) -> Answer {
+// What a drawing answered.
+pub(crate) fn drawn(answer: DrawAnswer) -> Said {
     match answer {
-        DrawAnswer::Accepted(counts) => holding(b'A', counts.samples, counts.new_cells, grid),
-        DrawAnswer::Refused(n) => holding(b'R', n, 0, grid),
+        DrawAnswer::Accepted(counts) => accepted(counts.samples, counts.new_cells),
+        DrawAnswer::Refused(n) => refused(n),
     }
 }
 
-// What a listing answered, and what its list holds.
-pub(crate) fn listed(answer: ListAnswer, list: &[u8]) -> Answer {
+// What a listing answered.
+pub(crate) fn listed(answer: ListAnswer) -> Said {
     match answer {
-        ListAnswer::Samples(n) => holding(b'A', n, 0, list),
-        ListAnswer::Refused(n) => holding(b'R', n, 0, list),
+        ListAnswer::Samples(n) => accepted(n, 0),
+        ListAnswer::Refused(n) => refused(n),
     }
 }
 
-// What a check of a curve answered, with nothing lent: 1 where the step test quit, 0 where it walked.
-pub(crate) fn curve_checked(answer: CheckAnswer) -> Answer {
+// The byte of a list from which on a listing left what it held.
+pub(crate) fn rest_after(answer: ListAnswer) -> usize {
     match answer {
-        CheckAnswer::Quit => holding(b'A', 1, 0, b""),
-        CheckAnswer::Walked => holding(b'A', 0, 0, b""),
-        CheckAnswer::Refused(n) => holding(b'R', n, 0, b""),
+        ListAnswer::Samples(n) => 3 * (n as usize),
+        ListAnswer::Refused(_) => 0,
     }
 }
 
-// What a check of a patch answered, with nothing lent.
-pub(crate) fn patch_checked(verdict: Verdict) -> Answer {
+// What a check of a curve answered: 1 where the step test quit, 0 where it walked.
+pub(crate) fn curve_checked(answer: CheckAnswer) -> Said {
+    match answer {
+        CheckAnswer::Quit => accepted(1, 0),
+        CheckAnswer::Walked => accepted(0, 0),
+        CheckAnswer::Refused(n) => refused(n),
+    }
+}
+
+// What a check of a patch answered.
+pub(crate) fn patch_checked(verdict: Verdict) -> Said {
     match verdict {
-        Verdict::Accepted => holding(b'A', 0, 0, b""),
-        Verdict::Refused(n) => holding(b'R', n, 0, b""),
+        Verdict::Accepted => accepted(0, 0),
+        Verdict::Refused(n) => refused(n),
     }
 }
 
-// What the choice of a step count answered, with nothing lent: the count.
-pub(crate) fn counted(answer: CountAnswer) -> Answer {
+// What the choice of a step count answered: the count.
+pub(crate) fn counted(answer: CountAnswer) -> Said {
     match answer {
-        CountAnswer::Steps(n) => holding(b'A', n, 0, b""),
-        CountAnswer::Refused(n) => holding(b'R', n, 0, b""),
+        CountAnswer::Steps(n) => accepted(n, 0),
+        CountAnswer::Refused(n) => refused(n),
+    }
+}
+
+fn accepted(number: u32, new_cells: u32) -> Said {
+    Said {
+        letter: b'A',
+        number,
+        new_cells,
+    }
+}
+
+fn refused(number: u32) -> Said {
+    Said {
+        letter: b'R',
+        number,
+        new_cells: 0,
     }
 }
 

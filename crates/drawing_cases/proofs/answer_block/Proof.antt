@@ -18,6 +18,9 @@ answer-input-requires c κs = (length-replicate {A = ℕ} 203776 0, length-repli
 same-length : tie.Need-same-length
 same-length c = search needs
 
+same-length-2 : tie.Need-same-length-2
+same-length-2 c = search needs
+
 returns : tie.Need-returns
 returns c = tt
 
@@ -29,4 +32,5 @@ answer-block-spec =
     slice-aggregate-answer-input-2
     answer-input-requires
     same-length
+    same-length-2
     returns)

@@ -8,10 +8,11 @@ use Rattle.drawing_cases.proofs.answer_cases.Statement.{statement}
 use Rattle.drawing_cases.proofs.answer_cases.Tie as tie
 
 abbrev Inv-loop : tie.InvT-loop
-Inv-loop records count answers₀ buffer₀ k₀ answers buffer k = (length answers ≡ length answers₀) × (length buffer ≡ length buffer₀) × (k ≤ count)
+Inv-loop records count answers₀ buffer₀ second₀ k₀ answers buffer second k =
+    (length answers ≡ length answers₀) × (length buffer ≡ length buffer₀) × (length second ≡ length second₀) × (k ≤ count)
 
 abbrev μ-loop : tie.MeasureT-loop
-μ-loop records count answers₀ buffer₀ k₀ answers buffer k = count - k
+μ-loop records count answers₀ buffer₀ second₀ k₀ answers buffer second k = count - k
 
 loop-holds : tie.Need-loop-holds Inv-loop μ-loop
 loop-holds c = omega arith
@@ -46,6 +47,9 @@ same-length c = search needs
 same-length-2 : tie.Need-same-length-2 Inv-loop μ-loop
 same-length-2 c = search needs
 
+same-length-3 : tie.Need-same-length-3 Inv-loop μ-loop
+same-length-3 c = search needs
+
 returns : tie.Need-returns Inv-loop μ-loop
 returns c = search needs
 
@@ -66,4 +70,5 @@ answer-cases-spec =
     loop-again
     same-length
     same-length-2
+    same-length-3
     returns)

@@ -1,38 +1,48 @@
-// Whether the listings of a curve from its two ends agree. What is `pub` here is so for drawing_cases.
+// Whether two calls agree, with a record and with its flip. What is `pub` here is so for drawing_cases.
 ghost use mathlib.Core.Logic.{_↔_};
+ghost use mathlib.Core.Path.{_≡_};
 ghost use Prim.Native.Nat.{_+_, _≤_};
 ghost use lib.Dec.{T};
 ghost use lib.ListN.{length};
-ghost use Rattle.both_ends.specs.Ends.{Agree, FromOtherEnd, Reversed, SameCell};
-use curve::Curve;
+ghost use Rattle.flip.specs.Listings.{Agree, Reversed, SameCell};
+ghost use Rattle.both_ways.specs.Bytes.{SameFrom};
 use scan::answer::ListAnswer;
 
-// The curve with its points in reverse order.
-pub fn from_other_end(curve: Curve) -> Curve
-    ensures { λ r. ⌜ FromOtherEnd curve r ⌝ }
+// What a call answers: a letter that says whether it is accepted, a number, and the number of new cells.
+pub struct Said {
+    pub letter: u8,
+    pub number: u32,
+    pub new_cells: u32,
+}
+
+// Whether two calls answer the same.
+pub fn same_answer(one: Said, other: Said) -> bool
+    ensures { λ r. ⌜ T r ↔ (one ≡ other) ⌝ }
 {
-    let p = curve.points;
-    let points = [
-        p[9],
-        p[10],
-        p[11],
-        p[6],
-        p[7],
-        p[8],
-        p[3],
-        p[4],
-        p[5],
-        p[0],
-        p[1],
-        p[2],
-    ];
-    let choice = curve.choice;
-    Curve {
-        points,
-        steps: curve.steps,
-        mark: curve.mark,
-        choice,
+    if one.letter != other.letter {
+        return false;
     }
+    if one.number != other.number {
+        return false;
+    }
+    one.new_cells == other.new_cells
+}
+
+// Whether as many bytes are lent to both, and the same from a place on.
+pub fn same_from(one: &[u8], other: &[u8], from: usize) -> bool
+    ensures { λ r. ⌜ T r ↔ SameFrom from (now (one .entry)) (now (other .entry)) ⌝ }
+{
+    if one.len() != other.len() {
+        return false;
+    }
+    let mut k = from;
+    while k < one.len() {
+        if one[k] != other[k] {
+            return false;
+        }
+        k += 1;
+    }
+    true
 }
 
 // Whether two listings have the same refusal, or the same cells in reverse order.

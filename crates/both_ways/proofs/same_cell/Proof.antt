@@ -1,8 +1,8 @@
 -- `same_cell` meets its contract: each of its three tests is a field of `SameCell`.
 use borrow.Author.Needs.{needs}
 use Rattle.decide.proofs.Truth.{equal}
-use Rattle.both_ends.proofs.same_cell.Statement.{statement}
-use Rattle.both_ends.proofs.same_cell.Tie as tie
+use Rattle.both_ways.proofs.same_cell.Statement.{statement}
+use Rattle.both_ways.proofs.same_cell.Tie as tie
 
 shared-slice-read-if1 : tie.Need-shared-slice-read-if1
 shared-slice-read-if1 c = search needs

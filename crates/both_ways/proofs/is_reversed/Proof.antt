@@ -6,9 +6,9 @@ use Prim.Native.Nat.{ℕ, _+_, _*_, _-_, _≤_, _<_}
 use native.Mathlib.Omega.{arith}
 use lib.Dec.{T}
 use lib.ListN.{length}
-use Rattle.both_ends.specs.Ends.{SameCell}
-use Rattle.both_ends.proofs.is_reversed.Statement.{statement}
-use Rattle.both_ends.proofs.is_reversed.Tie as tie
+use Rattle.flip.specs.Listings.{SameCell}
+use Rattle.both_ways.proofs.is_reversed.Statement.{statement}
+use Rattle.both_ways.proofs.is_reversed.Tie as tie
 
 abbrev Inv-loop : tie.InvT-loop
 Inv-loop list back count i₀ i =

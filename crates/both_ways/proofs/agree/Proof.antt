@@ -1,8 +1,8 @@
 -- `agree` meets its contract: in each arm the two answers are known, and `Agree` says what is left to compare.
 use borrow.Author.Needs.{needs}
 use Rattle.decide.proofs.Truth.{equal}
-use Rattle.both_ends.proofs.agree.Statement.{statement}
-use Rattle.both_ends.proofs.agree.Tie as tie
+use Rattle.both_ways.proofs.agree.Statement.{statement}
+use Rattle.both_ways.proofs.agree.Tie as tie
 
 enum-known-one : tie.Need-enum-known-one
 enum-known-one c = search needs

@@ -1,2 +1,0 @@
--- `Turned`: four points in reverse order.
-pub mod Turned
