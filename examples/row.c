@@ -1,9 +1,9 @@
 /* Draws K12's patch, x of g(i, j) = i + j with n = m = 4, over what the grid holds. y and z are chosen so that its row 2 has
-   a line of the cube of its own: y of g(i, j) = j, z = 2 for j = 2 and 0 otherwise; the line is y = 1, z = 1. A curve along
-   the whole line is checked, with 9 steps, three times its largest gap, so that the step test quits. Then it goes under:
-   it marks the cells that row 2 has left, and row 2 keeps its marks. Last it goes over, with as few steps as can be, which
-   the box chooses. After each drawing the number of its samples, how many cells are new, and what the line holds are
-   printed. */
+   a line of the cube of its own: y of g(i, j) = j, z = 2 for j = 2 and 0 otherwise; the line is y = 1, z = 1. The patch's
+   flip goes over it with another mark: on the same cells, so none is new. A curve along the whole line is checked, with 9
+   steps, three times its largest gap, so that the step test quits. Then it goes under: it marks the cells that row 2 has
+   left, and row 2 keeps its marks. Last it goes over, with as few steps as can be, which the box chooses. After each
+   drawing the number of its samples, how many cells are new, and what the line holds are printed. */
 #include "gidzkhalu.h"
 #include <stdio.h>
 
@@ -42,7 +42,7 @@ int main(void) {
     static const uint8_t along[GIDZKHALU_CURVE_BYTES] = {0, 1, 1, 2, 1, 1, 5, 1, 1, 7, 1, 1};
     static uint8_t grid[GIDZKHALU_CUBE_BYTES(SIDE)];
     const uint8_t *line = grid + SIDE * 1 + SIDE * SIDE * 1;
-    uint8_t points[GIDZKHALU_PATCH_BYTES];
+    uint8_t points[GIDZKHALU_PATCH_BYTES], flipped[GIDZKHALU_PATCH_BYTES];
     for (int i = 0; i < 4; i++) {
         for (int j = 0; j < 4; j++) {
             uint8_t *p = points + 3 * (4 * i + j);
@@ -51,10 +51,17 @@ int main(void) {
             p[2] = j == 2 ? 2 : 0;
         }
     }
-    uint32_t new_cells = 0;
+    uint32_t n = 4, m = 4, new_cells = 0;
     int64_t answer =
-        gidzkhalu_draw_patch(SIDE, points, sizeof points, 4, 4, 7, GIDZKHALU_OVER, grid, sizeof grid, &new_cells);
+        gidzkhalu_draw_patch(SIDE, points, sizeof points, n, m, 7, GIDZKHALU_OVER, grid, sizeof grid, &new_cells);
     if (print_drawing("patch over", answer, new_cells, line) != 0) {
+        return 1;
+    }
+    /* The lengths are right, so this is accepted. */
+    gidzkhalu_flip_patch(points, sizeof points, &n, &m, flipped, sizeof flipped);
+    answer =
+        gidzkhalu_draw_patch(SIDE, flipped, sizeof flipped, n, m, 6, GIDZKHALU_OVER, grid, sizeof grid, &new_cells);
+    if (print_drawing("its flip over", answer, new_cells, line) != 0) {
         return 1;
     }
     if (print_check(gidzkhalu_check_curve(SIDE, along, sizeof along, STEPS)) != 0) {

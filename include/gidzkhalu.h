@@ -7,9 +7,10 @@
 
    What the caller must keep:
      - x86-64 with the System V calling convention, the alignment of the stack included.
-     - Each buffer's pointer is valid for the length beside it. new_cells and detail have no length: each points at one
-       uint32_t, aligned as one, and is never NULL, whatever the call answers. What is written is not also read or written
-       elsewhere during the call, and nothing that one call is lent overlaps.
+     - Each buffer's pointer is valid for the length beside it. new_cells, detail and, where they are pointers, n and m
+       have no length: each points at one uint32_t, aligned as one, and is never NULL, whatever the call answers. What is
+       written is not also read or written elsewhere during the call, and nothing that one call is lent overlaps: n and m
+       point at two numbers.
      - Where a function says "Environment: default", the default floating-point environment: round to nearest,
        subnormals kept (in MXCSR neither flush-to-zero nor denormals-are-zero; a program linked with -ffast-math may begin
        with both), every exception masked. Under another one gidzkhalu_to_cell and gidzkhalu_half_way may accept what is
@@ -21,7 +22,7 @@
      - Any length, side, count, mark, choice, coordinate, kind or f32 may be passed; what is wrong is refused.
      - NULL may be passed with the length 0, for every buffer: nothing is read or written through it.
      - No buffer needs an alignment.
-     - *new_cells and *detail may hold anything before a call.
+     - *new_cells, *detail, *n and *m may hold anything before a call.
      - Any number of threads may call at once, each with its own of all that is written; what is only read may be shared.
 
    Stack: the most bytes that a call takes, as `bash tests/stack.sh` measures them on a painted stack. The return address
@@ -55,9 +56,9 @@ enum {
     GIDZKHALU_REFUSED_FIELD = 42,           /* a bad field */
     GIDZKHALU_REFUSED_SHEET_SIDE = 43,      /* a sheet's side of 41 to 64 */
     GIDZKHALU_REFUSED_PAST_LAST_LINE = 44,  /* a byte after the 200th curve line */
-    /* Of this interface alone, tried before all others, 51 before 55 and 53 before 52. */
+    /* Of this interface alone, tried before all others, 51 before 55 and 52, and 53 before 52. */
     GIDZKHALU_REFUSED_RECORD_LENGTH = 51,   /* a curve's points are not 12 bytes, a patch's not 48 */
-    GIDZKHALU_REFUSED_OUT_LENGTH = 52,      /* a cell is not 3 bytes, channels not 12 */
+    GIDZKHALU_REFUSED_OUT_LENGTH = 52,      /* a cell is not 3 bytes, channels not 12, a flip not as long as its record */
     GIDZKHALU_REFUSED_KIND = 53,            /* a kind of swatch that does not exist, above 2 */
     GIDZKHALU_REFUSED_CHOICE = 55,          /* a choice of a drawing that does not exist, above 1 */
     /* Of the refusal line, here and in Rattle. */
@@ -153,6 +154,14 @@ int64_t gidzkhalu_choose_steps(uint32_t side, const uint8_t *points, size_t poin
 int64_t gidzkhalu_draw_chosen(uint32_t side, const uint8_t *points, size_t points_len, uint8_t mark, uint32_t choice,
                               uint8_t *grid, size_t grid_len, uint32_t *new_cells);
 
+/* Writes the points of the curve's flip, its own in reverse order, 12 bytes; its steps, mark and choice are the curve's.
+   At any side, from lists of the same length and grids of the same bytes, a curve and its flip are accepted or refused with
+   the same number. They list the same cells, the flip in reverse order, and in all else have the same answers, new cells and
+   grids. The flip of the flip is the curve. Nothing is asked of the coordinates. Answer: 0.
+   Refusals: 51, 52.
+   Stack: 8 bytes. Instructions: 24. Environment: any. */
+int64_t gidzkhalu_flip_curve(const uint8_t *points, size_t points_len, uint8_t *flipped, size_t flipped_len);
+
 /* Patches: points has x y z of points 0 to 15, 48 bytes; g(i, j), i along t and j along u, is point 4 i + j. n steps
    along t, m along u. */
 
@@ -167,6 +176,15 @@ int64_t gidzkhalu_check_patch(uint32_t side, const uint8_t *points, size_t point
    Stack: 1720 bytes. Instructions: 6526029. Environment: any. */
 int64_t gidzkhalu_draw_patch(uint32_t side, const uint8_t *points, size_t points_len, uint32_t n, uint32_t m,
                              uint8_t mark, uint32_t choice, uint8_t *grid, size_t grid_len, uint32_t *new_cells);
+
+/* Writes the points of the patch's flip, 48 bytes: in the place of g(i, j) stands g(j, i). Exchanges *n and *m, which are
+   then the flip's; its mark and choice are the patch's. At any side, from grids of the same bytes, a patch and its flip are
+   accepted or refused with the same number and have the same answers, new cells and grids. The flip of the flip is the
+   patch. Nothing is asked of the coordinates, *n and *m. Answer: 0.
+   Refusals: 51, 52.
+   Stack: 8 bytes. Instructions: 76. Environment: any. */
+int64_t gidzkhalu_flip_patch(const uint8_t *points, size_t points_len, uint32_t *n, uint32_t *m, uint8_t *flipped,
+                             size_t flipped_len);
 
 /* Swatches: kind 0 is a colour, kind 1 a grey, kind 2 a hue with its saturation and value. A swatch's refusals, in the
    order in which they are tried:

@@ -48,10 +48,11 @@ void lend_cube(struct lent *l, size_t len) {
     memcpy(l->got, l->want, len);
 }
 
-void lend_number(struct lent *l) {
-    uint32_t no_count = 0x80000000 | random_word();
-    lend_shifted(l, sizeof no_count, sizeof no_count * below(SHIFTS / sizeof no_count));
-    *number_at(l->got) = *number_at(l->want) = no_count;
+void lend_number(struct lent *l) { lend_this_number(l, 0x80000000 | random_word()); }
+
+void lend_this_number(struct lent *l, uint32_t number) {
+    lend_shifted(l, sizeof number, sizeof number * below(SHIFTS / sizeof number));
+    *number_at(l->got) = *number_at(l->want) = number;
 }
 
 uint32_t *number_at(uint8_t *bytes) { return (uint32_t *)(void *)bytes; }

@@ -19,8 +19,10 @@ void lend(struct lent *lent, size_t len);
 void lend_bytes(struct lent *lent, const uint8_t *bytes, size_t len);
 void lend_cube(struct lent *lent, size_t len);
 
-/* Lends one uint32_t, aligned as one, that holds a random value from 2^31 on: no count of cells, side or line. */
+/* Lends one uint32_t, aligned as one, that holds a random value from 2^31 on, which is no count of cells, side or line, or
+   a given one. */
 void lend_number(struct lent *lent);
+void lend_this_number(struct lent *lent, uint32_t number);
 
 /* A lent number, of the library (got) or of the reference (want). */
 uint32_t *number_at(uint8_t *bytes);
@@ -75,7 +77,6 @@ void count_order(struct counts *counts, const struct order *order);
     X(COORDINATE_SIDE, "14 with a coordinate equal to the side")                                                       \
     X(LIST_EXACT, "accepted lists of exactly 3 (n + 1) bytes")                                                         \
     X(LIST_SHORT, "22 for a list one byte short")                                                                      \
-    X(ENDS_HALF, "curves listed from both ends with a sample on a half")                                               \
     X(CHECK_QUIT, "checks of curves that quit")                                                                        \
     X(CHECK_WALKED, "checks of curves accepted after a walk")                                                          \
     X(QUIT_EXACT, "checks that quit with n = 3 x the largest gap")                                                     \
@@ -140,7 +141,7 @@ void count_order(struct counts *counts, const struct order *order);
     X(CHOSEN_REFUSED, "chosen counts above 1 with a larger count refused")                                             \
     X(CHECKED_BELOW, "15 from a check with a count below the chosen one")                                              \
     X(CHECKED_CHOSEN, "checks accepted with the chosen count")                                                         \
-    X(CHOSEN_TURNED, "chosen counts compared with those from the other end, on other axes")                            \
+    X(CHOSEN_TURNED, "chosen counts compared with those on other axes")                                                \
     X(CHOSEN_OR_PASSED, "drawings with the chosen count compared with those with that count passed")                   \
     X(CHOSEN_SIDE_1, "calls that choose a count, of side 1")                                                           \
     X(CHOSEN_SIDE_2, "accepted calls that choose a count, of side 2")                                                  \
@@ -199,6 +200,26 @@ void count_order(struct counts *counts, const struct order *order);
     X(CHOICE_LAST, "55 for the choice 2^32 - 1")                                                                       \
     X(GRID_SHORT, "21 for a grid one byte short")                                                                      \
     X(GRID_LONG, "21 for a grid one byte long")                                                                        \
+    X(CURVE_FLIPPED_TWICE, "curves flipped twice: the curve")                                                          \
+    X(PATCH_FLIPPED_TWICE, "patches flipped twice, n and m not the same: the patch")                                   \
+    X(FLIP_COUNT_0, "patches flipped with a step count 0")                                                             \
+    X(FLIP_COUNT_LAST, "patches flipped with a step count 2^32 - 1")                                                   \
+    X(FLIP_SHORT, "52 for a flip one byte short of its record")                                                        \
+    X(FLIP_LONG, "52 for a flip one byte longer than its record")                                                      \
+    X(FLIP_QUIT, "checks that quit of a curve and of its flip, another curve")                                         \
+    X(FLIP_WALKED, "checks that walk of a curve and of its flip, another curve")                                       \
+    X(FLIP_LIST_HALF, "lists of a curve and of its flip, another curve, with a sample on a half")                      \
+    X(FLIP_LIST_REST, "lists of a curve and of its flip, another curve, with bytes that are left")                     \
+    X(FLIP_CURVE_OVER, "a curve and its flip, another curve, drawn over, some cells new and some not")                 \
+    X(FLIP_CHOSEN_OVER, "the same with a chosen count")                                                                \
+    X(FLIP_CURVE_UNDER, "a curve and its flip, another curve, drawn under, some cells new and some not")               \
+    X(FLIP_CHOSEN_UNDER, "the same with a chosen count")                                                               \
+    X(FLIP_CHOSEN, "chosen counts above 1 of a curve and of its flip, another curve")                                  \
+    X(FLIP_PATCH_CHECK, "accepted checks of a patch and of its flip, n and m not the same")                            \
+    X(FLIP_PATCH_HALF, "a patch and its flip drawn, n and m not the same, with a sample on a half")                    \
+    X(FLIP_PATCH_OVER, "a patch and its flip drawn over, n and m not the same, some cells new and some not")           \
+    X(FLIP_PATCH_UNDER, "a patch and its flip drawn under, n and m not the same, some cells new and some not")         \
+    X(FLIP_LONG_STEP, "15 for a patch, n and m not the same, and for its flip")                                        \
     X(CHANNEL_HALF, "accepted swatches with a channel on a half")                                                      \
     X(CHANNEL_MINUS_ZERO, "accepted swatches with a minus zero")                                                       \
     X(CHANNEL_SUBNORMAL, "accepted swatches with a subnormal channel")                                                 \
@@ -260,6 +281,7 @@ void count_order(struct counts *counts, const struct order *order);
     X(NULL_POINTS, "NULL for points of length 0")                                                                      \
     X(NULL_GRID, "NULL for a grid of length 0")                                                                        \
     X(NULL_LIST, "NULL for a list of length 0")                                                                        \
+    X(NULL_FLIP, "NULL for a flip of length 0")                                                                        \
     X(NULL_CELL, "NULL for a cell of length 0")                                                                        \
     X(NULL_CHANNELS, "NULL for channels of length 0")                                                                  \
     X(NULL_INPUT, "NULL for an input of length 0")                                                                     \

@@ -15,7 +15,8 @@
 
 static struct lent points = {.name = "points"}, grid = {.name = "grid or list"}, small = {.name = "cell or channels"},
                    input = {.name = "input"}, buffer = {.name = "buffer"}, detail = {.name = "detail"},
-                   new_cells = {.name = "new cells"}, cube = {.name = "cube"}, text = {.name = "text"};
+                   new_cells = {.name = "new cells"}, cube = {.name = "cube"}, text = {.name = "text"},
+                   flipped = {.name = "flipped"}, flip_n = {.name = "n"}, flip_m = {.name = "m"};
 
 /* Curves and patches */
 
@@ -342,47 +343,6 @@ static int large_curve(void) {
 
 static int large_patch(void) {
     return object_case(one_in(4) ? CHECK : DRAW, 1, 1, one_in(8) ? random_faults(ALL_FAULTS) : 0);
-}
-
-/* Lists a curve of random points, or the same with its points in reverse order; *answer is what the reference gives. */
-static int list_from(struct object_call *c, const uint8_t record[64], int other_end, int64_t *answer) {
-    uint8_t turned[64];
-    for (size_t k = 0; k < c->points_len; k++)
-        turned[k] = c->points_len == GIDZKHALU_CURVE_BYTES ? record[9 - k / 3 * 3 + k % 3] : record[k];
-    lend_bytes(&points, other_end ? turned : record, c->points_len);
-    lend(&grid, c->lent_len);
-    return compare_object(c, answer);
-}
-
-static int reversed(const uint8_t *list, const uint8_t *back, size_t cells) {
-    for (size_t i = 0; i < cells; i++)
-        if (memcmp(list + 3 * i, back + 3 * (cells - 1 - i), 3) != 0)
-            return 0;
-    return 1;
-}
-
-/* From its other end a curve has the same refusal, or the same cells in reverse order. */
-static int both_ends(void) {
-    static uint8_t list[GIDZKHALU_LIST_BYTES(GIDZKHALU_CURVE_STEPS_MOST)];
-    struct object_call c = {LIST, 0, random_side(), 0, 0, 0, OVER, NULL, 0, NULL, 0, NULL};
-    uint64_t halves = met[CURVE_HALF_RISING] + met[CURVE_HALF_FALLING];
-    uint8_t record[64];
-    int64_t there, back;
-    random_object(&c, record, one_in(100), random_faults(ALL_FAULTS));
-    if (!list_from(&c, record, 0, &there))
-        return 0;
-    meet(ENDS_HALF, met[CURVE_HALF_RISING] + met[CURVE_HALF_FALLING] > halves);
-    if (there >= 0)
-        memcpy(list, grid.got, 3 * (size_t)there);
-    if (!list_from(&c, record, 1, &back))
-        return 0;
-    if (there == back && (there < 0 || reversed(list, grid.got, (size_t)there)))
-        return 1;
-    print_failure(there, back);
-    printf("  from its other end the curve does not list the same cells in reverse:\n");
-    c.points = points.want;
-    print_object(&c);
-    return 0;
 }
 
 /* The same record checked, listed and drawn, its step count near three times its largest gap: all three are accepted, or
@@ -884,7 +844,7 @@ static int wrong_record(enum service service, int patch) {
     return object_case(service, patch, 0, fault | random_faults(ALL_FAULTS));
 }
 
-/* 51, 52, 53 or 55 for each call that can have them, often with another number that applies. */
+/* 51, 52, 53 or 55 for each call but a flip that can have them, often with another number that applies. */
 static int wrong_length(void) {
     switch (below(16)) {
     case 0:
@@ -995,11 +955,11 @@ static uint32_t count_of_axes(const uint8_t record[GIDZKHALU_CURVE_BYTES]) {
     return largest;
 }
 
-/* With the points in reverse order, their x y z as z x y, and side 64. */
+/* With the points' x y z as z x y, and side 64. */
 static int64_t count_turned(const uint8_t record[GIDZKHALU_CURVE_BYTES]) {
     uint8_t turned[GIDZKHALU_CURVE_BYTES];
     for (int k = 0; k < 12; k++)
-        turned[9 - k / 3 * 3 + (k + 1) % 3] = record[k];
+        turned[k / 3 * 3 + (k + 1) % 3] = record[k];
     return gidzkhalu_choose_steps(64, turned, sizeof turned);
 }
 
@@ -1014,7 +974,7 @@ static const char *fault_of_count(const struct object_call *c, const uint8_t rec
     if (gidzkhalu_check_curve(c->side, record, len, c->n) < 0)
         return "a check refuses the chosen count";
     if (count_turned(record) != c->n)
-        return "from the other end, on other axes, another count is chosen";
+        return "on other axes another count is chosen";
     for (uint32_t n = c->n + 1; n <= most && !refused_above; n++)
         refused_above = gidzkhalu_check_curve(c->side, record, len, n) < 0;
     meet(CHECKED_BELOW, c->n > 1);
@@ -1070,6 +1030,210 @@ static int chosen_by_checks(void) {
     meet(CHOSEN_ABOVE_AXES, count_of_axes(record) < c.n);
     return chosen_or_passed(&c);
 }
+
+/* Flips */
+
+static int64_t reference_flip(int patch, struct order *order) {
+    if (patch)
+        return reference_flip_patch(points.want, points.len, number_at(flip_n.want), number_at(flip_m.want),
+                                    flipped.want, flipped.len, order);
+    return reference_flip_curve(points.want, points.len, flipped.want, flipped.len, order);
+}
+
+static int64_t library_flip(int patch) {
+    const uint8_t *p = passed(&points, NULL_POINTS);
+    uint8_t *to = passed(&flipped, NULL_FLIP);
+    if (patch)
+        return gidzkhalu_flip_patch(p, points.len, number_at(flip_n.got), number_at(flip_m.got), to, flipped.len);
+    return gidzkhalu_flip_curve(p, points.len, to, flipped.len);
+}
+
+/* Compares the flip of the buffer points with the counts n and m, which a curve does not pass; the flip is left in flipped,
+   flip_n and flip_m. *want is the answer that the reference gives. */
+static int compare_flip(int patch, uint32_t n, uint32_t m, size_t flipped_len, int64_t *want) {
+    struct order order = {0};
+    int64_t got;
+    lend(&flipped, flipped_len);
+    lend_this_number(&flip_n, n);
+    lend_this_number(&flip_m, m);
+    *want = reference_flip(patch, &order);
+    got = library_flip(patch);
+    count_order(running.counts, &order);
+    meet(FLIP_SHORT, *want == -52 && flipped_len + 1 == points.len);
+    meet(FLIP_LONG, *want == -52 && flipped_len == points.len + 1);
+    if (*want == got && same(&points) && same(&flipped) && same(&flip_n) && same(&flip_m))
+        return 1;
+    print_failure(*want, got);
+    printf("  flip %s: n %" PRIu32 ", m %" PRIu32 ", flip of %zu bytes\n", patch ? "patch" : "curve", n, m, flipped.len);
+    print_bytes("points", points.want, points.len);
+    print_difference(&points);
+    print_difference(&flipped);
+    print_number(&flip_n);
+    print_number(&flip_m);
+    return 0;
+}
+
+/* Of the points of a record, or of its flip. */
+static size_t flip_length(size_t right, int wrong) {
+    static const size_t lengths[] = {0, 0, 1, 9, 11, 12, 13, 24, 36, 47, 48, 49, 60};
+    size_t len = right;
+    while (wrong && len == right)
+        len = one_in(2) ? right - 1 + 2 * below(2) : lengths[below(13)];
+    return len;
+}
+
+static uint32_t flip_count(void) {
+    static const uint32_t counts[] = {0, 1, 255, 256, 257, 65536, 0x80000000, 0xFFFFFFFF};
+    return one_in(2) ? counts[below(8)] : one_in(2) ? below(300) : random_word();
+}
+
+/* Any bytes and counts; flipped twice they are what they were. */
+static int flip_case(int patch) {
+    size_t right = patch ? GIDZKHALU_PATCH_BYTES : GIDZKHALU_CURVE_BYTES;
+    unsigned faults = one_in(2) ? 0 : below(4);
+    uint32_t n = flip_count(), m = flip_count();
+    uint8_t record[64];
+    int64_t answer;
+    random_bytes(record, sizeof record);
+    lend_bytes(&points, record, flip_length(right, faults & 1));
+    if (!compare_flip(patch, n, m, flip_length(right, faults & 2), &answer))
+        return 0;
+    if (answer < 0)
+        return 1;
+    meet(FLIP_COUNT_0, patch && n != m && (n == 0 || m == 0));
+    meet(FLIP_COUNT_LAST, patch && n != m && (n == UINT32_MAX || m == UINT32_MAX));
+    lend_bytes(&points, flipped.got, right);
+    if (!compare_flip(patch, *number_at(flip_n.got), *number_at(flip_m.got), right, &answer))
+        return 0;
+    meet(patch ? PATCH_FLIPPED_TWICE : CURVE_FLIPPED_TWICE, !patch || n != m);
+    if (memcmp(flipped.got, record, right) == 0 && *number_at(flip_n.got) == n && *number_at(flip_m.got) == m)
+        return 1;
+    print_failure(0, answer);
+    printf("  flipped twice, the record is another one:\n");
+    print_bytes("points", record, right);
+    return 0;
+}
+
+static int flip_curve(void) { return flip_case(0); }
+static int flip_patch(void) { return flip_case(1); }
+
+static int reversed(const uint8_t *list, const uint8_t *back, size_t cells) {
+    for (size_t i = 0; i < cells; i++)
+        if (memcmp(list + 3 * i, back + 3 * (cells - 1 - i), 3) != 0)
+            return 0;
+    return 1;
+}
+
+/* The library's call on a record: what it answered, what it left in the grid or list, and its new cells. */
+struct called {
+    int64_t answer;
+    const uint8_t *left;
+    uint32_t count;
+};
+
+/* What is wrong with the library's call on the flip, compared last, beside that on the record, or NULL. */
+static const char *fault_of_flip(const struct object_call *c, const struct called *record, int64_t answer) {
+    size_t listed = c->service == LIST && answer >= 0 ? 3 * (size_t)answer : 0;
+    if (answer != record->answer)
+        return "the flip has another answer";
+    if (draws(c) && answer >= 0 && *number_at(new_cells.got) != record->count)
+        return "the flip has other new cells";
+    if (!reversed(record->left, grid.got, listed / 3))
+        return "the flip does not list the same cells in reverse order";
+    if (grid.len > listed && memcmp(record->left + listed, grid.got + listed, grid.len - listed) != 0)
+        return c->service == LIST ? "the flip leaves other bytes in the list" : "the flip leaves another grid";
+    return NULL;
+}
+
+static int print_flip(const char *fault, const struct object_call *c, const struct called *record, int64_t answer) {
+    struct object_call printed = *c;
+    print_failure(record->answer, answer);
+    printf("  %s:\n", fault);
+    printed.points = points.want;
+    print_object(&printed);
+    return 0;
+}
+
+/* other: the flip has other points; halves: samples on a half that were met. Of a call that chooses, n is the count. */
+static void meet_flip(const struct object_call *c, const struct called *record, int other, uint64_t halves) {
+    int accepted = record->answer >= 0, sides = c->patch && c->n != c->m;
+    int drawn = accepted && draws(c) && 0 < record->count && record->count < different_cells(&samples, c->side);
+    int curve = drawn && other && c->service == DRAW && !c->patch, chosen = drawn && other && c->service == DRAW_CHOSEN;
+    int check = c->service == CHECK && !c->patch && other, list = accepted && other && c->service == LIST;
+    meet(FLIP_QUIT, check && record->answer == GIDZKHALU_QUIT);
+    meet(FLIP_WALKED, check && record->answer == GIDZKHALU_WALKED);
+    meet(FLIP_LIST_HALF, list && halves > 0);
+    meet(FLIP_LIST_REST, list && grid.len > 3 * (size_t)record->answer);
+    meet(c->choice == OVER ? FLIP_CURVE_OVER : FLIP_CURVE_UNDER, curve);
+    meet(FLIP_CHOSEN, c->service == CHOOSE && record->answer > 1 && other);
+    meet(c->choice == OVER ? FLIP_CHOSEN_OVER : FLIP_CHOSEN_UNDER, chosen);
+    meet(FLIP_PATCH_CHECK, accepted && c->service == CHECK && sides);
+    meet(FLIP_PATCH_HALF, accepted && c->service == DRAW && sides && halves > 0);
+    meet(c->choice == OVER ? FLIP_PATCH_OVER : FLIP_PATCH_UNDER, drawn && sides);
+    meet(FLIP_LONG_STEP, record->answer == -15 && sides);
+}
+
+static uint64_t halves_met(void) {
+    return met[CURVE_HALF_RISING] + met[CURVE_HALF_FALLING] + met[PATCH_HALF_RISING] + met[PATCH_HALF_FALLING];
+}
+
+/* The call on a record and, from the same bytes, on its flip, made by the library: the same answer, new cells and grid, or
+   the same cells in reverse order. Points of a wrong length have no flip: 51 for both. */
+static int call_and_flip(struct object_call *c, const uint8_t *record) {
+    static uint8_t start[LONGEST_GRID], left[LONGEST_GRID];
+    struct object_call flip = *c;
+    struct called called = {0, left, 0};
+    uint64_t halves = halves_met();
+    const char *fault;
+    int64_t answer;
+    lend_bytes(&points, record, c->points_len);
+    if (c->service == LIST)
+        lend(&grid, c->lent_len);
+    else
+        lend_cube(&grid, draws(c) ? c->lent_len : 0);
+    memcpy(start, grid.got, grid.len);
+    if (!compare_object(c, &called.answer))
+        return 0;
+    halves = halves_met() - halves;
+    memcpy(left, grid.got, grid.len);
+    called.count = draws(c) ? *number_at(new_cells.got) : 0;
+    if (!compare_flip(c->patch, flip.n, flip.m, c->patch ? GIDZKHALU_PATCH_BYTES : GIDZKHALU_CURVE_BYTES, &answer))
+        return 0;
+    if (answer < 0)
+        return answer == called.answer || print_flip("a record without a flip is not refused so", c, &called, answer);
+    flip.n = *number_at(flip_n.got);
+    flip.m = *number_at(flip_m.got);
+    lend_bytes(&points, flipped.got, flipped.len);
+    lend_bytes(&grid, start, grid.len);
+    if (!compare_object(&flip, &answer))
+        return 0;
+    meet_flip(c, &called, memcmp(record, flipped.got, flipped.len) != 0, halves);
+    fault = fault_of_flip(&flip, &called, answer);
+    return fault == NULL || print_flip(fault, &flip, &called, answer);
+}
+
+/* large: one case in so many is. */
+static int flip_of_object(enum service service, int patch, uint32_t large) {
+    struct object_call c = {service, patch, 0, 0, 0, 0, OVER, NULL, 0, NULL, 0, NULL};
+    uint8_t record[64];
+    int is_large = one_in(large);
+    c.side = is_large ? 33 + below(32) : random_side();
+    if (chooses(&c))
+        random_chosen(&c, record, is_large, random_faults(CHOSEN_FAULTS));
+    else if (service == CHECK && !patch && one_in(2))
+        random_gaps(&c, record, random_faults(RECORD_FAULTS));
+    else
+        random_object(&c, record, is_large, random_faults(ALL_FAULTS));
+    return call_and_flip(&c, record);
+}
+
+static int check_curve_flip(void) { return flip_of_object(CHECK, 0, 100); }
+static int list_curve_flip(void) { return flip_of_object(LIST, 0, 100); }
+static int draw_curve_flip(void) { return flip_of_object(DRAW, 0, 100); }
+static int choose_steps_flip(void) { return flip_of_object(CHOOSE, 0, 100); }
+static int draw_chosen_flip(void) { return flip_of_object(DRAW_CHOSEN, 0, 100); }
+static int check_patch_flip(void) { return flip_of_object(CHECK, 1, 2000); }
+static int draw_patch_flip(void) { return flip_of_object(DRAW, 1, 2000); }
 
 /* Two drawings into one grid */
 
@@ -1542,6 +1706,26 @@ static int known_halves(void) {
            known_failed("of a patch with halves in both rows");
 }
 
+/* Bytes that count up from 0, and where each point of a flip comes from. */
+static int known_flips(void) {
+    static const uint8_t curve[4] = {3, 2, 1, 0};
+    static const uint8_t patch[16] = {0, 4, 8, 12, 1, 5, 9, 13, 2, 6, 10, 14, 3, 7, 11, 15};
+    uint8_t record[GIDZKHALU_PATCH_BYTES];
+    int64_t answer;
+    int good = 1;
+    for (size_t at = 0; at < sizeof record; at++)
+        record[at] = (uint8_t)at;
+    lend_bytes(&points, record, GIDZKHALU_CURVE_BYTES);
+    good &= compare_flip(0, 5, 7, GIDZKHALU_CURVE_BYTES, &answer) && answer == 0;
+    for (size_t at = 0; at < GIDZKHALU_CURVE_BYTES; at++)
+        good &= flipped.got[at] == 3 * curve[at / 3] + at % 3;
+    lend_bytes(&points, record, GIDZKHALU_PATCH_BYTES);
+    good &= compare_flip(1, 5, 7, GIDZKHALU_PATCH_BYTES, &answer) && answer == 0;
+    for (size_t at = 0; at < GIDZKHALU_PATCH_BYTES; at++)
+        good &= flipped.got[at] == 3 * patch[at / 3] + at % 3;
+    return (good && *number_at(flip_n.got) == 7 && *number_at(flip_m.got) == 5) || known_failed("of flips");
+}
+
 static int known_swatch(uint32_t side, const struct swatch *s, const uint8_t cell[3]) {
     struct order order = {0};
     uint8_t want[3] = {99, 99, 99}, got[3] = {99, 99, 99};
@@ -1623,7 +1807,8 @@ static const char TOTALS[] = "         7         4         6         0         0
 static const char NO_LINE[] = "REFUSED   41    1\n";
 
 static int document_samples(void) {
-    int good = known_patch() & known_halves() & known_print(SHEET, 0, LISTING) & known_print("", 0, NO_LINE);
+    int good = known_patch() & known_halves() & known_flips();
+    good &= known_print(SHEET, 0, LISTING) & known_print("", 0, NO_LINE);
     good &= known_print(SHEET, 1, TOTALS) & known_print("", 1, NO_LINE);
     good &= known_grey(2, 0x3F000000, 0) & known_grey(3, 0x3E800000, 0) & known_grey(3, 0x3E800001, 1) & known_hues();
     for (uint32_t side = 2; side <= 64; side++)
@@ -1657,7 +1842,7 @@ static const int CHECK_ORDER[] = {51, 11, 13, 14, 15, 0}, LIST_ORDER[] = {51, 11
                  SIDE_LINE_ORDER[] = {21, 41, 42, 11, 43, 0},
                  CURVE_LINE_ORDER[] = {21, 44, 41, 42, 12, 13, 14, 15, 0}, TEXT_ORDER[] = {11, 21, 22, 0},
                  LINE_ORDER[] = {54, 22, 0}, RECORD_ORDER[] = {51, 55, 0}, OUT_ORDER[] = {53, 52, 0},
-                 BOTH_ORDER[] = {51, 11, 21, 12, 13, 14, 15, 0};
+                 BOTH_ORDER[] = {51, 11, 21, 12, 13, 14, 15, 0}, FLIP_ORDER[] = {51, 52, 0};
 
 static const struct kind {
     const char *name;
@@ -1668,13 +1853,21 @@ static const struct kind {
             {"check curve", 2000000, check_curve, {CHECK_ORDER, NULL}},
             {"list curve", 2000000, list_curve, {LIST_ORDER, NULL}},
             {"draw curve", 2000000, draw_curve, {DRAW_ORDER, NULL}},
-            {"both ends", 500000, both_ends, {LIST_ORDER, NULL}},
             {"near quitting", 500000, near_quitting, {CHECK_ORDER, NULL}},
             {"choose steps", 2000000, choose_steps, {CHOOSE_ORDER, NULL}},
             {"draw chosen", 1000000, draw_chosen, {CHOSEN_ORDER, NULL}},
             {"chosen by checks", 500000, chosen_by_checks, {NULL, NULL}},
             {"check patch", 1000000, check_patch, {CHECK_ORDER, NULL}},
             {"draw patch", 1000000, draw_patch, {DRAW_ORDER, NULL}},
+            {"flip curve", 500000, flip_curve, {FLIP_ORDER, NULL}},
+            {"flip patch", 500000, flip_patch, {FLIP_ORDER, NULL}},
+            {"check curve, flip", 300000, check_curve_flip, {CHECK_ORDER, NULL}},
+            {"list curve, flip", 300000, list_curve_flip, {LIST_ORDER, NULL}},
+            {"draw curve, flip", 300000, draw_curve_flip, {DRAW_ORDER, NULL}},
+            {"choose steps, flip", 200000, choose_steps_flip, {CHOOSE_ORDER, NULL}},
+            {"draw chosen, flip", 100000, draw_chosen_flip, {CHOSEN_ORDER, NULL}},
+            {"check patch, flip", 100000, check_patch_flip, {CHECK_ORDER, NULL}},
+            {"draw patch, flip", 100000, draw_patch_flip, {DRAW_ORDER, NULL}},
             {"swatch to cell", 4000000, to_cell, {CELL_ORDER, NULL}},
             {"hue to cell", 4000000, hue_to_cell, {CELL_ORDER, HUE_ORDER}},
             {"half-way", 8000000, half_way, {HALF_ORDER, NULL}},

@@ -75,7 +75,7 @@ enum { CELLS = 64 * 64 * 64, ROOM = GIDZKHALU_PART_BYTES(CELLS) + 72, WORDS = 12
 
 static uint8_t now[ROOM], plain[ROOM], record[64], input[SHEET_ROOM], cube[300001];
 static size_t lent_len; /* of now, the bytes that are compared */
-static uint32_t new_cells, detail;
+static uint32_t new_cells, detail, flip_n, flip_m;
 static char words[WORDS];
 
 /* Lends so many random bytes, and 64 behind them that are not lent. The numbers hold what no call writes. */
@@ -85,9 +85,9 @@ static void lend(size_t len) {
     new_cells = detail = UINT32_MAX;
 }
 
-/* Puts the numbers behind the bytes that are compared. */
-static void keep_numbers(void) {
-    const uint32_t left[2] = {new_cells, detail};
+/* Puts two numbers behind the bytes that are compared. */
+static void keep_numbers(uint32_t first, uint32_t second) {
+    const uint32_t left[2] = {first, second};
     memcpy(now + lent_len, left, sizeof left);
     lent_len += sizeof left;
 }
@@ -124,7 +124,7 @@ static int64_t object(enum environment e, enum service service, int patch) {
     else
         UNDER(e, &answer,
               gidzkhalu_draw_curve(c.side, record, c.points_len, c.n, c.mark, c.choice, now, c.lent_len, &new_cells));
-    keep_numbers();
+    keep_numbers(new_cells, detail);
     snprintf(words, WORDS, "side %" PRIu32 ", n %" PRIu32 ", m %" PRIu32 ", mark %d, choice %" PRIu32, c.side, c.n, c.m,
              c.mark, c.choice);
     return answer;
@@ -163,6 +163,35 @@ static int64_t check_patch(enum environment e, uint64_t number) {
 static int64_t draw_patch(enum environment e, uint64_t number) {
     (void)number;
     return object(e, DRAW, 1);
+}
+
+/* Any bytes, now and then of a wrong length. */
+static int64_t flip(enum environment e, int patch) {
+    size_t right = patch ? GIDZKHALU_PATCH_BYTES : GIDZKHALU_CURVE_BYTES;
+    size_t len = one_in(16) ? below(65) : right, flipped_len = one_in(16) ? below(65) : right;
+    volatile int64_t answer;
+    random_bytes(record, sizeof record);
+    lend(flipped_len);
+    flip_n = random_word();
+    flip_m = random_word();
+    snprintf(words, WORDS, "points of %zu bytes, flip of %zu, n %" PRIu32 ", m %" PRIu32, len, flipped_len, flip_n,
+             flip_m);
+    if (patch)
+        UNDER(e, &answer, gidzkhalu_flip_patch(record, len, &flip_n, &flip_m, now, flipped_len));
+    else
+        UNDER(e, &answer, gidzkhalu_flip_curve(record, len, now, flipped_len));
+    keep_numbers(flip_n, flip_m);
+    return answer;
+}
+
+static int64_t flip_curve(enum environment e, uint64_t number) {
+    (void)number;
+    return flip(e, 0);
+}
+
+static int64_t flip_patch(enum environment e, uint64_t number) {
+    (void)number;
+    return flip(e, 1);
 }
 
 /* Swatches. Chosen ones come first: the number nearest below 0, the least normal number, whose half is subnormal, and 1
@@ -225,7 +254,7 @@ static int64_t draw_sheet(enum environment e, uint64_t number) {
         buffer_len = below(GIDZKHALU_SHEET_BUFFER_BYTES + 2);
     lend(buffer_len);
     UNDER(e, &answer, gidzkhalu_draw_sheet(input, len, now, buffer_len, &detail, &new_cells));
-    keep_numbers();
+    keep_numbers(new_cells, detail);
     snprintf(words, WORDS, "a sheet of %zu bytes", len);
     return answer;
 }
@@ -291,8 +320,10 @@ static struct function {
     {"draw_curve", draw_curve, 50000, {0}, 0, 0, 0, {0}, {{0}}},
     {"choose_steps", choose_steps, 50000, {0}, 0, 0, 0, {0}, {{0}}},
     {"draw_chosen", draw_chosen, 50000, {0}, 0, 0, 0, {0}, {{0}}},
+    {"flip_curve", flip_curve, 20000, {0}, 0, 0, 0, {0}, {{0}}},
     {"check_patch", check_patch, 20000, {0}, 0, 0, 0, {0}, {{0}}},
     {"draw_patch", draw_patch, 20000, {0}, 0, 0, 0, {0}, {{0}}},
+    {"flip_patch", flip_patch, 20000, {0}, 0, 0, 0, {0}, {{0}}},
     /* A channel up to 1/128 has the coordinate 0, so a result that is flushed to 0 changes no cell. */
     {"to_cell", to_cell, 200000, {0, 0, 1, 1, 1, 1, 1, 1}, 0, 0, 0, {0}, {{0}}},
     {"half_way", half_way, 200000, {0, 1, 1, 1, 1, 1, 1, 1}, 0, 0, 0, {0}, {{0}}},

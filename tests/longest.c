@@ -312,6 +312,28 @@ static void draw_patches(void) {
         draw_patches_as(DRAWINGS[k]);
 }
 
+/* Flips: every point is copied once, whatever the bytes and the counts are; a wrong length is told before. */
+static void flips(int patch) {
+    size_t right = patch ? GIDZKHALU_PATCH_BYTES : GIDZKHALU_CURVE_BYTES;
+    static uint8_t points[64];
+    for (int kind = 0; kind < 5; kind++) {
+        size_t points_len = kind == 3 ? right + 1 : right, flipped_len = kind == 4 ? right + 1 : right;
+        uint32_t n = kind == 0 ? 0 : GIDZKHALU_PATCH_STEPS_MOST, m = kind == 1 ? UINT32_MAX : 1;
+        int64_t answer;
+        for (size_t k = 0; k < sizeof points; k++)
+            points[k] = kind == 0 ? 0 : kind == 1 ? 255 : (uint8_t)k;
+        if (patch)
+            answer = gidzkhalu_flip_patch(points, points_len, &n, &m, text, flipped_len);
+        else
+            answer = gidzkhalu_flip_curve(points, points_len, text, flipped_len);
+        printf("%" PRId64 ": points of %zu bytes, %s, a flip of %zu\n", answer, points_len,
+               kind == 0 ? "all 0" : kind == 1 ? "all 255" : "in a row", flipped_len);
+    }
+}
+
+static void flip_curves(void) { flips(0); }
+static void flip_patches(void) { flips(1); }
+
 /* Swatches: no loops. A hue is compared with the whole numbers in turn, and each row of channels has a path of its own; a
    colour and a grey are shorter, and so is what is refused, the last value at the latest. */
 static const struct swatch {
@@ -469,8 +491,10 @@ static const struct {
                  {"gidzkhalu_draw_curve", draw_curves},
                  {"gidzkhalu_choose_steps", choose_steps},
                  {"gidzkhalu_draw_chosen", draw_chosen},
+                 {"gidzkhalu_flip_curve", flip_curves},
                  {"gidzkhalu_check_patch", check_patches},
                  {"gidzkhalu_draw_patch", draw_patches},
+                 {"gidzkhalu_flip_patch", flip_patches},
                  {"gidzkhalu_to_cell", cells},
                  {"gidzkhalu_half_way", half_ways},
                  {"gidzkhalu_draw_sheet", sheets},

@@ -314,6 +314,44 @@ int64_t reference_object(const struct object_call *c, struct order *order, struc
     return (int64_t)(s->along * s->rows);
 }
 
+/* Flips */
+
+static void put_point(uint8_t *to, const uint8_t *from) {
+    for (int axis = 0; axis < 3; axis++)
+        to[axis] = from[axis];
+}
+
+/* 51 and 52, for a record of so many bytes. */
+static int flip_order(size_t right, size_t points_len, size_t flipped_len, struct order *order) {
+    order_add(order, 51, points_len != right);
+    order_add(order, 52, flipped_len != right);
+    return order_first(order);
+}
+
+int64_t reference_flip_curve(const uint8_t *points, size_t points_len, uint8_t *flipped, size_t flipped_len,
+                             struct order *order) {
+    int refusal = flip_order(12, points_len, flipped_len, order);
+    for (int k = 0; refusal == 0 && k < 4; k++)
+        put_point(flipped + 3 * (3 - k), points + 3 * k);
+    return -refusal;
+}
+
+int64_t reference_flip_patch(const uint8_t *points, size_t points_len, uint32_t *n, uint32_t *m, uint8_t *flipped,
+                             size_t flipped_len, struct order *order) {
+    int refusal = flip_order(48, points_len, flipped_len, order);
+    uint32_t along_t = *n, along_u = *m;
+    if (refusal != 0)
+        return -refusal;
+    for (int i = 0; i < 4; i++)
+        for (int j = 0; j < 4; j++)
+            put_point(flipped + 3 * (4 * j + i), points + 3 * (4 * i + j));
+    *n = along_u;
+    *m = along_t;
+    return 0;
+}
+
+/* Cells of an accepted object */
+
 size_t different_cells(const struct samples *s, uint32_t side) {
     static uint8_t met[64 * 64 * 64];
     size_t count = 0;

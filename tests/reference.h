@@ -77,6 +77,12 @@ void count_ties(const struct samples *samples, uint64_t *rising, uint64_t *falli
    cells of a drawing are the unmarked cells of the whole grid before it minus those after it. */
 int64_t reference_object(const struct object_call *call, struct order *order, struct samples *samples);
 
+/* The points of a curve's flip, in reverse order, and of a patch's flip, its i and j exchanged, with its counts. */
+int64_t reference_flip_curve(const uint8_t *points, size_t points_len, uint8_t *flipped, size_t flipped_len,
+                             struct order *order);
+int64_t reference_flip_patch(const uint8_t *points, size_t points_len, uint32_t *n, uint32_t *m, uint8_t *flipped,
+                             size_t flipped_len, struct order *order);
+
 /* The bytes 0 of a grid. */
 size_t unmarked_cells(const uint8_t *grid, size_t len);
 

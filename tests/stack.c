@@ -140,8 +140,10 @@ enum function {
     DRAW_CURVE,
     CHOOSE_STEPS,
     DRAW_WITH_CHOSEN,
+    FLIP_CURVE,
     CHECK_PATCH,
     DRAW_PATCH,
+    FLIP_PATCH,
     TO_CELL,
     HALF_WAY,
     DRAW_SHEET,
@@ -166,8 +168,10 @@ static struct figure {
     {"draw_curve", {0, 51, 55, 11, 21, 12, 13, 14, 15}, -1, 0, 0, {0}, 0, ""},
     {"choose_steps", {0, 51, 11, 14}, -1, 0, 0, {0}, 0, ""},
     {"draw_chosen", {0, 51, 55, 11, 21, 12, 14}, -1, 0, 0, {0}, 0, ""},
+    {"flip_curve", {0, 51, 52}, -1, 0, 0, {0}, 0, ""},
     {"check_patch", {0, 51, 11, 13, 14, 15}, -1, 0, 0, {0}, 0, ""},
     {"draw_patch", {0, 51, 55, 11, 21, 12, 13, 14, 15}, -1, 0, 0, {0}, 0, ""},
+    {"flip_patch", {0, 51, 52}, -1, 0, 0, {0}, 0, ""},
     {"to_cell", {0, 53, 52, 11, 31, 33, 32}, -1, 0, 0, {0}, 0, ""},
     {"half_way", {0, 53, 52, 31, 33, 32}, -1, 0, 0, {0}, 0, ""},
     {"draw_sheet", {0, 21, 41, 42, 11, 43, 44, 12, 13, 14, 15}, -1, 0, 0, {0}, 0, ""},
@@ -434,6 +438,52 @@ static void random_choose_steps(void) { random_choice_call(CHOOSE); }
 static void random_draw_with_chosen(void) { random_choice_call(DRAW_CHOSEN); }
 static void random_check_patch(void) { random_object_call(CHECK, 1); }
 static void random_draw_patch(void) { random_object_call(DRAW, 1); }
+
+/* Flips */
+
+static uint8_t record_points[64], flipped[64];
+
+/* A patch's counts stand exchanged after each call. */
+static void measure_flip(int patch, uint32_t n, uint32_t m, size_t points_len, size_t flipped_len) {
+    uint64_t p = PLACE(record_points), to = PLACE(flipped);
+    if (patch) {
+        struct call call = {
+            (uint64_t)gidzkhalu_flip_patch, {p, points_len, PLACE(&n), PLACE(&m), to, flipped_len}, {0}};
+        measure(FLIP_PATCH, gidzkhalu_flip_patch(record_points, points_len, &n, &m, flipped, flipped_len), &call,
+                "points of %zu bytes, flip of %zu, n %" PRIu32 ", m %" PRIu32, points_len, flipped_len, n, m);
+    } else {
+        struct call call = {(uint64_t)gidzkhalu_flip_curve, {p, points_len, to, flipped_len}, {0}};
+        measure(FLIP_CURVE, gidzkhalu_flip_curve(record_points, points_len, flipped, flipped_len), &call,
+                "points of %zu bytes, flip of %zu", points_len, flipped_len);
+    }
+}
+
+/* Every two lengths, with the least and the greatest bytes and with bytes in a row, and with the ends of the counts. */
+static void chosen_flips(int patch) {
+    static const size_t lengths[] = {0, 1, 11, 12, 13, 47, 48, 49, 64};
+    static const uint32_t counts[] = {0, 1, 256, 257, 0xFFFFFFFF};
+    for (int bytes = 0; bytes < 3; bytes++) {
+        for (size_t k = 0; k < sizeof record_points; k++)
+            record_points[k] = bytes == 0 ? 0 : bytes == 1 ? 255 : (uint8_t)k;
+        for (size_t p = 0; p < SIZE(lengths); p++)
+            for (size_t f = 0; f < SIZE(lengths); f++)
+                for (size_t n = 0; n < (patch ? SIZE(counts) : 1); n++)
+                    for (size_t m = 0; m < (patch ? SIZE(counts) : 1); m++)
+                        measure_flip(patch, counts[n], counts[m], lengths[p], lengths[f]);
+    }
+}
+
+static void random_flip(int patch) {
+    size_t right = patch ? GIDZKHALU_PATCH_BYTES : GIDZKHALU_CURVE_BYTES;
+    size_t points_len = one_in(8) ? below(65) : right, flipped_len = one_in(8) ? below(65) : right;
+    random_bytes(record_points, sizeof record_points);
+    measure_flip(patch, random_word(), random_word(), points_len, flipped_len);
+}
+
+static void chosen_flip_curves(void) { chosen_flips(0); }
+static void chosen_flip_patches(void) { chosen_flips(1); }
+static void random_flip_curve(void) { random_flip(0); }
+static void random_flip_patch(void) { random_flip(1); }
 
 /* Swatches */
 
@@ -735,16 +785,16 @@ static void random_refusal_line(void) {
 enum { RANDOM_CALLS = 5000 };
 
 static void (*const CHOSEN[FUNCTIONS])(void) = {
-    chosen_check_curves,      chosen_list_curves,   chosen_draw_curves,  chosen_choose_steps,
-    chosen_draws_with_chosen, chosen_check_patches, chosen_draw_patches, chosen_to_cells,
-    chosen_half_ways,         chosen_sheets,        chosen_parts,        chosen_totals,
-    chosen_lines};
+    chosen_check_curves,      chosen_list_curves, chosen_draw_curves,   chosen_choose_steps,
+    chosen_draws_with_chosen, chosen_flip_curves, chosen_check_patches, chosen_draw_patches,
+    chosen_flip_patches,      chosen_to_cells,    chosen_half_ways,     chosen_sheets,
+    chosen_parts,             chosen_totals,      chosen_lines};
 
 static void (*const RANDOM[FUNCTIONS])(void) = {
-    random_check_curve,      random_list_curve,  random_draw_curve, random_choose_steps,
-    random_draw_with_chosen, random_check_patch, random_draw_patch, random_to_cell,
-    random_half_way,         random_draw_sheet,  random_list_part,  random_totals,
-    random_refusal_line};
+    random_check_curve,      random_list_curve, random_draw_curve,  random_choose_steps,
+    random_draw_with_chosen, random_flip_curve, random_check_patch, random_draw_patch,
+    random_flip_patch,       random_to_cell,    random_half_way,    random_draw_sheet,
+    random_list_part,        random_totals,     random_refusal_line};
 
 static void run(void) {
     start_run(1);
