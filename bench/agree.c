@@ -70,6 +70,19 @@ static answer call_draw_patch(const struct box *box, uint8_t *lent)
                            &new_cells);
 }
 
+static answer call_flip_curve(const struct box *box, uint8_t *lent)
+{
+    return box->flip_curve(in.points, in.points_len, lent, in.lent_len);
+}
+
+/* The counts that it exchanges are the numbers that it writes. */
+static answer call_flip_patch(const struct box *box, uint8_t *lent)
+{
+    detail = in.n;
+    new_cells = in.m;
+    return box->flip_patch(in.points, in.points_len, &detail, &new_cells, lent, in.lent_len);
+}
+
 static answer call_to_cell(const struct box *box, uint8_t *lent)
 {
     return box->to_cell(in.side, in.kind, in.a[0], in.a[1], in.a[2], lent, in.lent_len);
@@ -201,6 +214,8 @@ static void agree_on_curve(int s, int k)
     agree("list_curve", call_list_curve, in.lent_len + 1);
     in.lent_len = CELLS;
     agree_on_choices("draw_curve", call_draw_curve);
+    in.lent_len = 12;
+    agree("flip_curve", call_flip_curve, 13);
 }
 
 /* Document 02's own example, on every axis: 0 0 0 6 takes 17 steps. */
@@ -231,6 +246,8 @@ static void agree_on_patch(int set, int k)
     in.lent_len = CELLS;
     agree("check_patch", call_check_patch, 0);
     agree_on_choices("draw_patch", call_draw_patch);
+    in.lent_len = 48;
+    agree("flip_patch", call_flip_patch, 49);
 }
 
 static void agree_on_swatches(int set, size_t i, uint32_t kind)
@@ -369,6 +386,8 @@ static void agree_on_record(void)
     agree("check_curve", call_check_curve, 0);
     in.lent_len = 3 * (size_t)in.n + random_below(4);
     agree("list_curve", call_list_curve, 3 * 600);
+    in.lent_len = rarely(20) ? 11 + random_below(3) : 12;
+    agree("flip_curve", call_flip_curve, 16);
 }
 
 static void some_curve(void)
@@ -392,6 +411,8 @@ static void some_patch(void)
     some_record(16, 256);
     agree("draw_patch", call_draw_patch, ROOM);
     agree("check_patch", call_check_patch, 0);
+    in.lent_len = rarely(20) ? 47 + random_below(3) : 48;
+    agree("flip_patch", call_flip_patch, 64);
 }
 
 static float next_to(float v)

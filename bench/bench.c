@@ -170,6 +170,16 @@ static size_t draw_with_chosen(const struct box *box, int set)
     return POLYGONS;
 }
 
+static size_t flip_curves(const struct box *box, int set)
+{
+    uint8_t flipped[12];
+    if (!box->flip_curve)
+        return 0;
+    for (int k = 0; k < times_over * CURVES; k++)
+        total += box->flip_curve(curves[set][k % CURVES], 12, flipped, 12);
+    return (size_t)times_over * CURVES;
+}
+
 /* Set 0 has 64 × 64 steps, set 1 256 × 256, and fewer patches are enough. */
 static size_t draw_patches(const struct box *box, int set, int way)
 {
@@ -199,6 +209,17 @@ static size_t check_patches(const struct box *box, int set)
     for (int k = 0; k < count; k++)
         total += box->check_patch(SIDE, patches[set][k], 48, n, n);
     return (size_t)count * (n + 1) * (n + 1);
+}
+
+static size_t flip_patches(const struct box *box, int set)
+{
+    uint8_t flipped[48];
+    uint32_t n = 64, m = 256;
+    if (!box->flip_patch)
+        return 0;
+    for (int k = 0; k < times_over * CURVES; k++)
+        total += box->flip_patch(patches[set][k % PATCHES], 48, &n, &m, flipped, 48);
+    return (size_t)times_over * CURVES;
 }
 
 static size_t cells_of(const struct box *box, int set, uint32_t kind)
@@ -324,6 +345,7 @@ static const struct row {
     {"draw with the chosen count over, side 64", "call", "draw_chosen", draw_with_chosen, LARGE, 4},
     {"choose the steps of the slowest polygon", "call", "choose_steps", choose_counts, SLOWEST, 4},
     {"draw it with the chosen count over", "call", "draw_chosen", draw_with_chosen, SLOWEST, 4},
+    {"flip a curve", "call", "flip_curve", flip_curves, BOXED, 4},
     {"draw a patch, 64 × 64, side 64, over, cells unmarked", "sample", "draw_patch", small_patches, OVER_UNMARKED, 4},
     {"draw it over, cells marked", "sample", "draw_patch", small_patches, OVER_MARKED, 4},
     {"draw it under, cells unmarked", "sample", "draw_patch", small_patches, UNDER_UNMARKED, 4},
@@ -334,6 +356,7 @@ static const struct row {
     {"draw it under, cells unmarked", "sample", "draw_patch", large_patches, UNDER_UNMARKED, 4},
     {"draw it under, cells marked", "sample", "draw_patch", large_patches, UNDER_MARKED, 4},
     {"check it", "sample", "check_patch", check_patches, 1, 3},
+    {"flip a patch", "call", "flip_patch", flip_patches, 0, 4},
     {"swatch to cell, colour, bright", "call", "to_cell", color_cells, BRIGHT, 4},
     {"swatch to cell, colour, dark", "call", "to_cell", color_cells, DARK, 4},
     {"swatch to cell, grey, bright", "call", "to_cell", grey_cells, BRIGHT, 4},

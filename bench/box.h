@@ -23,9 +23,12 @@ typedef answer draw_curve_fn(uint32_t side, const uint8_t *points, size_t points
 typedef answer choose_steps_fn(uint32_t side, const uint8_t *points, size_t points_len);
 typedef answer draw_chosen_fn(uint32_t side, const uint8_t *points, size_t points_len, uint8_t mark, uint32_t choice,
                               uint8_t *grid, size_t grid_len, uint32_t *new_cells);
+typedef answer flip_curve_fn(const uint8_t *points, size_t points_len, uint8_t *flipped, size_t flipped_len);
 typedef answer check_patch_fn(uint32_t side, const uint8_t *points, size_t points_len, uint32_t n, uint32_t m);
 typedef answer draw_patch_fn(uint32_t side, const uint8_t *points, size_t points_len, uint32_t n, uint32_t m,
                              uint8_t mark, uint32_t choice, uint8_t *grid, size_t grid_len, uint32_t *new_cells);
+typedef answer flip_patch_fn(const uint8_t *points, size_t points_len, uint32_t *n, uint32_t *m, uint8_t *flipped,
+                             size_t flipped_len);
 typedef answer to_cell_fn(uint32_t side, uint32_t kind, float a, float b, float c, uint8_t *cell, size_t cell_len);
 typedef answer half_way_fn(uint32_t kind, float a, float b, float c, uint32_t kind2, float a2, float b2, float c2,
                            uint8_t *channels, size_t channels_len);
@@ -43,8 +46,10 @@ struct box {
     draw_curve_fn *draw_curve;
     choose_steps_fn *choose_steps;
     draw_chosen_fn *draw_chosen;
+    flip_curve_fn *flip_curve;
     check_patch_fn *check_patch;
     draw_patch_fn *draw_patch;
+    flip_patch_fn *flip_patch;
     to_cell_fn *to_cell;
     half_way_fn *half_way;
     draw_sheet_fn *draw_sheet;
@@ -59,8 +64,10 @@ struct box {
     draw_curve_fn prefix##_draw_curve;     \
     choose_steps_fn prefix##_choose_steps; \
     draw_chosen_fn prefix##_draw_chosen;   \
+    flip_curve_fn prefix##_flip_curve;     \
     check_patch_fn prefix##_check_patch;   \
     draw_patch_fn prefix##_draw_patch;     \
+    flip_patch_fn prefix##_flip_patch;     \
     to_cell_fn prefix##_to_cell;           \
     half_way_fn prefix##_half_way;         \
     draw_sheet_fn prefix##_draw_sheet;     \
@@ -71,8 +78,9 @@ struct box {
 #define BOX(prefix)                                                                                           \
     {                                                                                                         \
         #prefix, prefix##_check_curve, prefix##_list_curve, prefix##_draw_curve, prefix##_choose_steps,       \
-            prefix##_draw_chosen, prefix##_check_patch, prefix##_draw_patch, prefix##_to_cell,                \
-            prefix##_half_way, prefix##_draw_sheet, prefix##_list_part, prefix##_totals, prefix##_refusal_line \
+            prefix##_draw_chosen, prefix##_flip_curve, prefix##_check_patch, prefix##_draw_patch,             \
+            prefix##_flip_patch, prefix##_to_cell, prefix##_half_way, prefix##_draw_sheet, prefix##_list_part, \
+            prefix##_totals, prefix##_refusal_line                                                            \
     }
 
 DECLARE_BOX(gidzkhalu);
@@ -85,6 +93,8 @@ DECLARE_BOX(before); /* another build of the library */
 #if defined(BEFORE)
 #pragma weak before_choose_steps
 #pragma weak before_draw_chosen
+#pragma weak before_flip_curve
+#pragma weak before_flip_patch
 #endif
 
 #endif

@@ -3,6 +3,7 @@
      curves    quits, step_too_long, list_samples, mark_samples
      patches   patch_step_too_long, mark_rows
                mark_samples and mark_rows go over or under and answer how many cells are new
+     flips     reverse_points, of a curve; exchange_points, of a patch
      swatches  refusal_of_one and refusal_of_three, 0 or the number of channels; refusal_of_hue, of hue, saturation and
                value; coordinate; mix, of two channels */
 #ifndef CALLS_H
@@ -96,6 +97,32 @@ answer CALL(draw_patch)(uint32_t side, const uint8_t *points, size_t points_len,
     else
         *new_cells = mark_rows(side, points, n, m, mark, false, grid);
     return (answer)((n + 1) * (m + 1));
+}
+
+/* Flips. */
+
+answer CALL(flip_curve)(const uint8_t *points, size_t points_len, uint8_t *flipped, size_t flipped_len)
+{
+    if (points_len != 12)
+        return -51;
+    if (flipped_len != 12)
+        return -52;
+    reverse_points(points, flipped);
+    return 0;
+}
+
+answer CALL(flip_patch)(const uint8_t *points, size_t points_len, uint32_t *n, uint32_t *m, uint8_t *flipped,
+                        size_t flipped_len)
+{
+    if (points_len != 48)
+        return -51;
+    if (flipped_len != 48)
+        return -52;
+    exchange_points(points, flipped);
+    uint32_t along_t = *n;
+    *n = *m;
+    *m = along_t;
+    return 0;
 }
 
 /* Swatches. A grey's one channel is tried once. */

@@ -219,6 +219,20 @@ static uint8_t *put_totals(uint32_t side, const uint8_t *cube, uint8_t *text)
     return text;
 }
 
+/* Flips: the place of every byte by division. */
+
+static void reverse_points(const uint8_t *points, uint8_t *flipped)
+{
+    for (uint32_t p = 0; p < 12; p++)
+        flipped[p] = points[9 - p / 3 * 3 + p % 3];
+}
+
+static void exchange_points(const uint8_t *points, uint8_t *flipped)
+{
+    for (uint32_t p = 0; p < 48; p++)
+        flipped[p] = points[p / 3 % 4 * 12 + p / 12 * 3 + p % 3];
+}
+
 #define CALL(name) direct_##name
 #include "calls.h"
 #include "chosen.h"

@@ -409,6 +409,31 @@ static uint8_t *put_totals(uint32_t side, const uint8_t *cube, uint8_t *text)
     return put_total(0, table, text);
 }
 
+/* Flips: the points with these numbers, in turn. */
+
+static INLINED void put_points(const uint8_t *points, const uint8_t *numbers, size_t count, uint8_t *flipped)
+{
+    for (size_t k = 0; k < count; k++) {
+        const uint8_t *from = points + 3 * numbers[k];
+        uint8_t x = from[0], y = from[1], z = from[2];
+        flipped[3 * k] = x;
+        flipped[3 * k + 1] = y;
+        flipped[3 * k + 2] = z;
+    }
+}
+
+static void reverse_points(const uint8_t *points, uint8_t *flipped)
+{
+    static const uint8_t numbers[4] = {3, 2, 1, 0};
+    put_points(points, numbers, 4, flipped);
+}
+
+static void exchange_points(const uint8_t *points, uint8_t *flipped)
+{
+    static const uint8_t numbers[16] = {0, 4, 8, 12, 1, 5, 9, 13, 2, 6, 10, 14, 3, 7, 11, 15};
+    put_points(points, numbers, 16, flipped);
+}
+
 #define CALL(name) same_##name
 #include "calls.h"
 #include "chosen.h"

@@ -136,6 +136,21 @@ static inline float mix(float a, float b)
     return a + (b - a) * 0.5f;
 }
 
+/* Flips: point by point. */
+
+static void reverse_points(const uint8_t *points, uint8_t *flipped)
+{
+    for (int k = 0; k < 4; k++)
+        memcpy(flipped + 3 * k, points + 3 * (3 - k), 3);
+}
+
+static void exchange_points(const uint8_t *points, uint8_t *flipped)
+{
+    for (int i = 0; i < 4; i++)
+        for (int j = 0; j < 4; j++)
+            memcpy(flipped + 3 * (4 * i + j), points + 3 * (4 * j + i), 3);
+}
+
 #define CALL(name) usual_##name
 #include "calls.h"
 
