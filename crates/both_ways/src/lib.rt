@@ -50,12 +50,12 @@ pub fn agree(one: ListAnswer, other: ListAnswer, list: &[u8], back: &[u8]) -> bo
     ensures { λ r. ⌜ T r ↔ Agree (now (list .entry)) (now (back .entry)) one other ⌝ }
 {
     match one {
-        ListAnswer::Samples(n) => match other {
-            ListAnswer::Samples(m) => n == m && is_reversed(list, back, n as usize),
+        ListAnswer::Accepted(n) => match other {
+            ListAnswer::Accepted(m) => n == m && is_reversed(list, back, n as usize),
             ListAnswer::Refused(_) => false,
         },
         ListAnswer::Refused(k) => match other {
-            ListAnswer::Samples(_) => false,
+            ListAnswer::Accepted(_) => false,
             ListAnswer::Refused(l) => k == l,
         },
     }

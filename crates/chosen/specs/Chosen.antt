@@ -9,8 +9,8 @@ use Rattle.cube.specs.Cube.{sideOut, volume}
 use Rattle.drawing.specs.declared.Choice.{Choice}
 use Rattle.drawing.specs.declared.Choice.the-variants.{Over}
 use Rattle.drawing.specs.Object.{Object, curve}
-use Rattle.drawing.specs.Refusals.{coordinateOut, stepsTooLong}
-use Rattle.drawing.specs.Drawing.{Drawing}
+use Rattle.drawing.specs.Refusals.{coordinateOut, stepsTooLong, sampleCount}
+use Rattle.drawing.specs.Drawing.{cells, Drawing}
 use Rattle.gaps.specs.Gaps.{largestGap}
 use Rattle.chosen.specs.declared.CountAnswer.{CountAnswer}
 use Rattle.chosen.specs.declared.CountAnswer.the-variants.{Steps, Refused}
@@ -56,6 +56,9 @@ chosenCurve points mark choice = curve (chosen points) points mark choice
 abbrev pub chosenDrawing : (S : ℕ) (points : List ℕ) (mark : ℕ) (choice : Choice) → Drawing
 chosenDrawing S points mark choice = record {
   side = S;
-  object = chosenCurve points mark choice;
+  cells = cells (chosenCurve points mark choice);
+  mark = mark;
+  choice = choice;
+  answer = sampleCount (chosenCurve points mark choice .counts);
   verdict = λ gridLength. firstThat (chosenOrder S points (not (eqb gridLength (volume S))) (eqb mark 0));
 }

@@ -41,8 +41,8 @@ pub fn draw_chosen(side: u32, curve: Curve, grid: &mut [u8]) -> DrawAnswer
         Verdict::Accepted => {
             let chosen = search::with_steps(curve, search::smallest(curve));
             let new_cells = curve::samples::mark_samples(side, chosen, grid);
-            let samples = chosen.steps + 1; // samples 0 to n
-            DrawAnswer::Accepted(Drawn { samples, new_cells })
+            let answer = chosen.steps + 1; // samples 0 to n
+            DrawAnswer::Accepted(Drawn { answer, new_cells })
         }
     }
 }

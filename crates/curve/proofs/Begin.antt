@@ -17,7 +17,7 @@ use Rattle.drawing.specs.Refusals.{Drawable, drawVerdict, listVerdict, sampleCo
 use Rattle.drawing.specs.Drawing.{marked, bytes, cells, drawnBy, drawn, listed}
 use Rattle.drawing.proofs.Samples.{one-row}
 use Rattle.drawing.proofs.Cells.{corner-cell}
-use Rattle.drawing.proofs.Listed.{listed-accepted}
+use Rattle.drawing.proofs.Listed.{samples-listed}
 use Rattle.cubic.specs.Differences.{differencesAt}
 use Rattle.cubic.specs.Axis.{startOf}
 use Rattle.cubic.proofs.Tracks.{start-tracks}
@@ -58,7 +58,7 @@ module _ {S : ℕ} (c : Curve) (twelve : length (c .points) ≡ 12) (d : Drawabl
   limits = drawable-in-limits c twelve d
 
   -- A curve is one row, in a grid and in a listing.
-  pub curve-row : (h : Strides) (stride : Axis → ℕ) → ((a : Axis) → strideOf h a ≡ pos (stride a)) →
+  unfoldable pub curve-row : (h : Strides) (stride : Axis → ℕ) → ((a : Axis) → strideOf h a ≡ pos (stride a)) →
       ((a : Axis) → stride a ≤ 4096) → Walk S (curveOf c) h (c .steps) (along []) (λ a. doubledAlong c (offset a))
   curve-row h stride is small = record {
     drawable = d;
@@ -72,10 +72,10 @@ module _ {S : ℕ} (c : Curve) (twelve : length (c .points) ≡ 12) (d : Drawabl
     room = λ a. along-room limits (offset a) (offset-small a);
   }
 
-  grid-row : Walk S (curveOf c) (gridStrides S) (c .steps) (along []) (λ a. doubledAlong c (offset a))
+  unfoldable pub grid-row : Walk S (curveOf c) (gridStrides S) (c .steps) (along []) (λ a. doubledAlong c (offset a))
   grid-row = curve-row (gridStrides S) (gridStride S) (grid-stride-is S) (grid-stride-small (d .side-most))
 
-  pub list-row : Walk S (curveOf c) listStrides (c .steps) (along []) (λ a. doubledAlong c (offset a))
+  unfoldable pub list-row : Walk S (curveOf c) listStrides (c .steps) (along []) (λ a. doubledAlong c (offset a))
   list-row = curve-row listStrides (λ a. 1) list-stride-is (λ a. lit≤ tt)
 
   -- What an accepted drawing leaves are the marks of the row.
@@ -96,7 +96,7 @@ module _ {S : ℕ} (c : Curve) (twelve : length (c .points) ≡ 12) (d : Drawabl
   unfolding cells sampleCount
   listed-row list e =
       let one : suc (c .steps) * 1 ≡ suc (c .steps) = omega arith in
-      listed-accepted S (curveOf c) list e ∙
+      samples-listed S (curveOf c) list e ∙
       rw (one-row (c .steps), row-cells list-row (start-at c d listStrides), one)
 
 -- The same with the scale N, the strides h and the walker w as the code holds them, and with the choice that is told.

@@ -9,7 +9,7 @@ ghost use mathlib.Core.Bool.{false};
 ghost use Rattle.decide.specs.Refusal.{firstThat, outcome};
 ghost use Rattle.decide.specs.Verdict.{verdictOf};
 ghost use Rattle.drawing.specs.Refusals.{countOut, checkVerdict};
-ghost use Rattle.drawing.specs.Drawing.{drawingOf};
+ghost use Rattle.drawing.specs.Drawing.{drawingOf, listingOf};
 ghost use Rattle.gaps.specs.Gaps.{quits};
 ghost use Rattle.scan.specs.Refusals.{beforeSteps};
 ghost use Rattle.scan.specs.Answer.{Draws, Lists};
@@ -55,7 +55,7 @@ pub fn check_curve(side: u32, curve: Curve) -> CheckAnswer
 
 // Writes x y z of each sample's cell from the front of the list. Refused: 11, 13, 22, 14, 15.
 pub fn list_curve(side: u32, curve: Curve, list: &mut [u8]) -> ListAnswer
-    ensures { λ r. ⌜ Lists side (curveOf curve) (now (list .entry)) (now (list .exit)) r ⌝ }
+    ensures { λ r. ⌜ Lists (listingOf side (curveOf curve)) (now (list .entry)) (now (list .exit)) r ⌝ }
 {
     let count = curve.steps as usize + 1;
     match before_test(side, curve, false, false, list.len() < 3 * count) {
@@ -64,7 +64,7 @@ pub fn list_curve(side: u32, curve: Curve, list: &mut [u8]) -> ListAnswer
             StepTest::TooLong => ListAnswer::Refused(15),
             _ => {
                 samples::list_samples(side, curve, list);
-                ListAnswer::Samples(curve.steps + 1)
+                ListAnswer::Accepted(curve.steps + 1)
             }
         },
     }
@@ -81,15 +81,15 @@ pub fn draw_curve(side: u32, curve: Curve, grid: &mut [u8]) -> DrawAnswer
             StepTest::TooLong => DrawAnswer::Refused(15),
             _ => {
                 let new_cells = samples::mark_samples(side, curve, grid);
-                let samples = curve.steps + 1; // samples 0 to n
-                DrawAnswer::Accepted(Drawn { samples, new_cells })
+                let answer = curve.steps + 1; // samples 0 to n
+                DrawAnswer::Accepted(Drawn { answer, new_cells })
             }
         },
     }
 }
 
 // The first number that applies before the step test, with what grid, mark and list have to say.
-fn before_test(
+pub fn before_test(
     side: u32,
     curve: Curve,
     grid_wrong: bool,

@@ -20,7 +20,7 @@ use scan::walker::Strides;
 use scan::walker::Walker;
 
 // Sample 0 on one axis.
-fn start_axis(curve: Curve, a: usize, stride: i64) -> Axis
+pub fn start_axis(curve: Curve, a: usize, stride: i64) -> Axis
     requires { ⌜ InLimits curve ⌝ }
     requires { ⌜ a < 3 ⌝ }
     requires { ⌜ SmallStride stride ⌝ }
@@ -35,7 +35,7 @@ fn start_axis(curve: Curve, a: usize, stride: i64) -> Axis
 }
 
 // Sample 0: the cell of point 0.
-fn start_walker(curve: Curve, h: Strides) -> Walker
+pub fn start_walker(curve: Curve, h: Strides) -> Walker
     requires { ⌜ InLimits curve ⌝ }
     requires { ⌜ SmallStrides h ⌝ }
     ensures { λ r. ⌜ r ≡ startWalker curve h ⌝ }

@@ -11,14 +11,14 @@ use cubic::differences::Cubic;
 
 // What the test tells: no step is too long, after a walk along all steps or without one, or a walk found a step that is.
 // In the order of `CheckAnswer`, so that a compiled check hands it on as it is.
-pub(crate) enum StepTest {
+pub enum StepTest {
     Walked,
     Quit,
     TooLong,
 }
 
 // The test quits where the gaps say that no step is too long, and else it walks.
-pub(crate) fn test_steps(curve: Curve) -> StepTest
+pub fn test_steps(curve: Curve) -> StepTest
     requires { ⌜ InLimits curve ⌝ }
     ensures { λ r. ⌜ (tellsLong r ≡ stepsTooLong (curveOf curve)) × (tellsQuit r ≡ quits (curve .points) (curve .steps)) ⌝ }
 {

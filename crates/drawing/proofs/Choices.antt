@@ -3,15 +3,15 @@ use mathlib.Core.Path.{_≡_, refl, ap}
 use mathlib.Core.List.{List, map}
 use Prim.Native.Nat.{ℕ, _-_}
 use lib.ListN.{length}
-use Rattle.decide.specs.Refusal.{leaves}
+use Rattle.decide.specs.Refusal.{accepted}
 use Rattle.decide.proofs.Refusal.{by-verdict}
 use Rattle.cube.specs.Cube.{place}
 use Rattle.drawing.specs.declared.Choice.{Choice}
 use Rattle.drawing.specs.Object.{Object, exact, cellOf, going}
 use Rattle.drawing.specs.Refusals.{stepsTooLong, order, drawVerdict, listVerdict, checkVerdict}
-use Rattle.drawing.specs.Drawing.{marked, cells, drawnBy, drawn, listed}
+use Rattle.drawing.specs.Drawing.{cells, Drawing, drawingOf, choosing, drawnBy, listedBy, listed}
 use Rattle.drawing.specs.NewCells.{unmarkedCells, newCells}
-use Rattle.drawing.proofs.Accepted.{draw-accepted}
+use Rattle.drawing.proofs.Drawn.{Fits, drawn-accepted, drawn-refused}
 use Rattle.drawing.proofs.NewCells.{unmarked-either-way}
 
 module _ (c : Choice) (S : ℕ) (o : Object) where
@@ -28,24 +28,23 @@ module _ (c : Choice) (S : ℕ) (o : Object) where
   list-verdict-going listLength = refl
 
   pub listed-going : (list : List ℕ) → listed S (going c o) list ≡ listed S o list
-  unfolding listed listVerdict order stepsTooLong cells cellOf exact
+  unfolding listedBy listVerdict order stepsTooLong cells cellOf exact
   listed-going list = refl
 
-  -- The grid after a drawing with the choice.
-  drawn-going : (grid : List ℕ) →
-      drawn S (going c o) grid ≡ leaves (drawVerdict S (length grid) o) (marked c (o .mark) (map (place S) (cells o)) grid) grid
-  unfolding drawnBy drawVerdict order stepsTooLong cells cellOf exact
-  drawn-going grid = refl
+  -- A drawing of the object with the choice is its drawing with the choice.
+  pub drawing-going : drawingOf S (going c o) ≡ choosing c (drawingOf S o)
+  unfolding drawVerdict order stepsTooLong cells cellOf exact
+  drawing-going = refl
 
--- Over and under turn as many cells from unmarked to marked.
-module _ (c d : Choice) (S : ℕ) (o : Object) (grid : List ℕ) where
-  unmarked-left : unmarkedCells (drawn S (going c o) grid) ≡ unmarkedCells (drawn S (going d o) grid)
+-- Over and under turn as many cells from unmarked to marked, whatever the kind of drawing.
+module _ (c : Choice) (d : Drawing) (grid : List ℕ) (fits : d .verdict (length grid) ≡ accepted → Fits d (length grid)) where
+  unmarked-left : unmarkedCells (drawnBy (choosing c d) grid) ≡ unmarkedCells (drawnBy d grid)
   unmarked-left =
-      rw (drawn-going c S o grid, drawn-going d S o grid)
-      (by-verdict (drawVerdict S (length grid) o) _
-      (λ e. rw e (unmarked-either-way (o .mark) (draw-accepted S o (length grid) .0 e .2) (map (place S) (cells o)) grid c d))
-      (λ k e. rw e))
+      by-verdict (d .verdict (length grid)) _
+      (λ e. rw (drawn-accepted (choosing c d) grid e, drawn-accepted d grid e)
+      (unmarked-either-way (d .mark) (fits e .mark) (map (place (d .side)) (d .cells)) grid c (d .choice)))
+      (λ k e. rw (drawn-refused (choosing c d) grid e, drawn-refused d grid e))
 
-  pub as-many-new : newCells grid (drawn S (going c o) grid) ≡ newCells grid (drawn S (going d o) grid)
+  pub as-many-new : newCells grid (drawnBy (choosing c d) grid) ≡ newCells grid (drawnBy d grid)
   unfolding newCells
   as-many-new = ap (λ k. unmarkedCells grid - k) unmarked-left

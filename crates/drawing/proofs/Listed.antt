@@ -15,7 +15,7 @@ use Rattle.cube.specs.Cube.{Axis, x-axis, y-axis, z-axis, Cell}
 use Rattle.drawing.specs.declared.Choice.{Choice}
 use Rattle.drawing.specs.Object.{Object, curve, offset, cellOf}
 use Rattle.drawing.specs.Refusals.{listVerdict, sampleCount}
-use Rattle.drawing.specs.Drawing.{row, rows, samples, bytes, cells, listed}
+use Rattle.drawing.specs.Drawing.{row, rows, samples, bytes, cells, Listing, listingOf, listedBy, listed}
 use Rattle.drawing.proofs.Samples.{length-row, samples-count}
 use Rattle.drawing.proofs.Accepted.{list-accepted}
 
@@ -67,25 +67,32 @@ length-cells o = length-map (samples (o .counts)) (cellOf o) ∙ samples-count (
 length-cell-bytes : (o : Object) → length (bytes (cells o)) ≡ 3 * sampleCount (o .counts)
 length-cell-bytes o = rw (length-bytes, length-cells)
 
-module _ (S : ℕ) (o : Object) (list : List ℕ) where
-  -- A refused listing leaves the list.
-  pub listed-refused : {k : ℕ} → listVerdict S (length list) o ≡ refused k → listed S o list ≡ list
-  unfolding listed
+-- A listing of whatever kind.
+module _ (l : Listing) (list : List ℕ) where
+  -- A refused one leaves the list.
+  pub listed-refused : {k : ℕ} → l .verdict (length list) ≡ refused k → listedBy l list ≡ list
+  unfolding listedBy
   listed-refused e = rw e
 
-  -- An accepted listing is the cells' bytes and then the rest of the list.
-  pub listed-accepted : listVerdict S (length list) o ≡ accepted →
+  -- An accepted one is the cells' bytes and then the rest of the list.
+  pub listed-accepted : l .verdict (length list) ≡ accepted →
+      listedBy l list ≡ bytes (l .cells) ++ drop (3 * length (l .cells)) list
+  unfolding listedBy
+  listed-accepted e = rw (e, length-bytes (l .cells))
+
+module _ (S : ℕ) (o : Object) (list : List ℕ) where
+  -- Document 01's has three bytes a sample.
+  pub samples-listed : listVerdict S (length list) o ≡ accepted →
       listed S o list ≡ bytes (cells o) ++ drop (3 * sampleCount (o .counts)) list
-  unfolding listed
-  listed-accepted e = rw (e, length-cell-bytes o)
+  samples-listed e = rw (length-cells o) at (listed-accepted (listingOf S o) list e)
 
   -- A listing keeps the list's length.
   pub length-listed : length (listed S o list) ≡ length list
   length-listed =
       by-verdict (listVerdict S (length list) o) _
-      (λ e. rw (listed-accepted e, length-append, length-drop, length-cell-bytes o)
+      (λ e. rw (samples-listed e, length-append, length-drop, length-cell-bytes o)
       (omega (arith, list-accepted S o (length list) .0 e .1)))
-      (λ k e. ap length (listed-refused e))
+      (λ k e. ap length (listed-refused (listingOf S o) list e))
 
   -- The bytes past the last sample's keep what they held.
   pub listed-rest : (q : ℕ) → 3 * sampleCount (o .counts) ≤ q → getD (listed S o list) q 0 ≡ getD list q 0
@@ -94,12 +101,12 @@ module _ (S : ℕ) (o : Object) (list : List ℕ) where
       (λ e. let r : ℕ = 3 * sampleCount (o .counts) in
       let to-end : q ≡ length (bytes (cells o)) + (q - r) = rw (length-cell-bytes o) (omega arith) in
       let back : r + (q - r) ≡ q = omega arith in
-      ap (λ l. getD l q 0) (listed-accepted e) ∙
+      ap (λ l. getD l q 0) (samples-listed e) ∙
       ap (λ k. getD (bytes (cells o) ++ drop r list) k 0) to-end ∙
       getD-append-add (bytes (cells o)) (drop r list) (q - r) 0 ∙
       getD-drop r list (q - r) 0 ∙
       ap (λ k. getD list k 0) back)
-      (λ k e. ap (λ l. getD l q 0) (listed-refused e))
+      (λ k e. ap (λ l. getD l q 0) (listed-refused (listingOf S o) list e))
 
 -- Sample i of a curve.
 curve-sample-at : (n i : ℕ) → i ≤ n → getD (samples (n ∷ [])) i [] ≡ i ∷ []
@@ -115,7 +122,7 @@ module _ (S n : ℕ) (points : List ℕ) (mark : ℕ) (choice : Choice) (list : 
   listed-curve e i h a =
       let o : Object = curve n points mark choice in
       let here : i < length (cells o) = rw length-cells (omega arith) in
-      ap (λ l. getD l (3 * i + offset a) 0) (listed-accepted S o list e) ∙
+      ap (λ l. getD l (3 * i + offset a) 0) (samples-listed S o list e) ∙
       List·getD-append (bytes (cells o)) _ 0 (3 * i + offset a)
       (rw length-cell-bytes (omega (arith, offset-below a))) ∙
       bytes-at (cells o) (cellOf o []) i a here ∙

@@ -13,16 +13,11 @@ use Rattle.decide.specs.Refusal.{accepted}
 use Rattle.decide.proofs.Refusal.{by-verdict}
 use Rattle.decide.proofs.Truth.{decided, true-of, false-of, same-test, equal}
 use Rattle.cube.specs.Cube.{place}
-use Rattle.cube.proofs.Places.{place-below}
 use Rattle.drawing.specs.declared.Choice.{Choice}
-use Rattle.drawing.specs.Object.{Object, cellOf}
-use Rattle.drawing.specs.Refusals.{drawVerdict}
-use Rattle.drawing.specs.Drawing.{written, marked, cells, drawingOf, drawn, inTurn}
+use Rattle.drawing.specs.Drawing.{written, marked, Drawing, drawnBy, inTurn}
 use Rattle.drawing.specs.NewCells.{unmarkedCells, newCells, newInTurn, Different}
-use Rattle.drawing.proofs.Accepted.{draw-accepted}
-use Rattle.drawing.proofs.Cells.{cell-inside}
 use Rattle.drawing.proofs.Marked.{markedAt, written-marked, at-place, elsewhere, length-marked, marked-holds, marked-there}
-use Rattle.drawing.proofs.Drawn.{PlaceOfSample, drawn-refused, drawn-accepted, of-sample, place-listed}
+use Rattle.drawing.proofs.Drawn.{PlaceOf, of-cell, place-listed, Fits, cell-below, drawn-refused, drawn-accepted}
 
 -- What a byte adds to the unmarked cells is at most one.
 one-at-most : (b : Bool) → cond b 1 0 ≤ 1
@@ -149,38 +144,36 @@ module _ (c : Choice) (m : ℕ) (mark : 1 ≤ m) where
       by-test true d n = (n, d)
       by-test false d n = d
 
--- The places that an accepted drawing turns from unmarked to marked: those of its samples' cells that were unmarked, each
--- once, as many as there are unmarked cells less afterwards.
-pub record NewPlaces (S : ℕ) (o : Object) (grid : List ℕ) : Type 0 where
+-- The places that an accepted drawing turns from unmarked to marked: those of its cells that were unmarked, each once, as many
+-- as there are unmarked cells less afterwards.
+pub record NewPlaces (d : Drawing) (grid : List ℕ) : Type 0 where
   pub places : List ℕ
-  pub count : length places + unmarkedCells (drawn S o grid) ≡ unmarkedCells grid
-  pub are : (q : ℕ) → List·Memᴰ q places ↔ (PlaceOfSample S o q × (getD grid q 0 ≡ 0))
+  pub count : length places + unmarkedCells (drawnBy d grid) ≡ unmarkedCells grid
+  pub are : (q : ℕ) → List·Memᴰ q places ↔ (PlaceOf (d .side) (d .cells) q × (getD grid q 0 ≡ 0))
   pub different : Different places
 
-module _ (S : ℕ) (o : Object) (grid : List ℕ) where
-  pub new-places : drawVerdict S (length grid) o ≡ accepted → NewPlaces S o grid
-  new-places e =
-      let w = draw-accepted S o (length grid) .0 e in
-      let ps : List ℕ = map (place S) (cells o) in
+module _ (d : Drawing) (grid : List ℕ) where
+  pub new-places : d .verdict (length grid) ≡ accepted → Fits d (length grid) → NewPlaces d grid
+  new-places e f =
+      let ps : List ℕ = map (place (d .side)) (d .cells) in
       let inside : (q : ℕ) → List·Memᴰ q ps → q < length grid =
-      λ q l. let s = of-sample S o l in
-      rw (s .at, w .1) (place-below S (cellOf o (s .sample)) (cell-inside (w .0) (s .is-sample))) in
+      λ q l. let p = of-cell (d .side) (d .cells) l in rw (p .at) (cell-below d grid f (p .is-one)) in
       record {
-        places = freshPlaces (o .choice) (o .mark) (w .2) ps grid;
-        count = rw (drawn-accepted (drawingOf S o) grid e) (fresh-count (o .choice) (o .mark) (w .2) ps grid inside);
-        are = λ q. let f = fresh-are (o .choice) (o .mark) (w .2) ps grid inside q in (
-          λ l. (of-sample S o (f .0 l .0), f .0 l .1),
-          λ p. f .1 (place-listed S o (p .0), p .1),
+        places = freshPlaces (d .choice) (d .mark) (f .mark) ps grid;
+        count = rw (drawn-accepted d grid e) (fresh-count (d .choice) (d .mark) (f .mark) ps grid inside);
+        are = λ q. let w = fresh-are (d .choice) (d .mark) (f .mark) ps grid inside q in (
+          λ l. (of-cell (d .side) (d .cells) (w .0 l .0), w .0 l .1),
+          λ p. w .1 (place-listed (d .side) (d .cells) (p .0), p .1),
         );
-        different = fresh-different (o .choice) (o .mark) (w .2) ps grid inside;
+        different = fresh-different (d .choice) (d .mark) (f .mark) ps grid inside;
       }
 
   -- A drawing leaves at most as many unmarked cells as there were: an accepted one by the above, a refused one all.
-  pub drawn-at-most : unmarkedCells (drawn S o grid) ≤ unmarkedCells grid
-  drawn-at-most =
-      by-verdict (drawVerdict S (length grid) o) _
-      (λ e. omega (arith, new-places e .count))
-      (λ k e. rw (drawn-refused (drawingOf S o) grid e) (omega arith))
+  pub drawn-at-most : (d .verdict (length grid) ≡ accepted → Fits d (length grid)) → unmarkedCells (drawnBy d grid) ≤ unmarkedCells grid
+  drawn-at-most fits =
+      by-verdict (d .verdict (length grid)) _
+      (λ e. omega (arith, new-places e (fits e) .count))
+      (λ k e. rw (drawn-refused d grid e) (omega arith))
 
 -- Two grids of one length that are unmarked at the same places have as many unmarked cells.
 unmarked-alike : (g h : List ℕ) → length g ≡ length h →

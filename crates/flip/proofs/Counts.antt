@@ -1,6 +1,6 @@
 -- A curve and its flip have the same gaps, so the step test quits for both or for neither; and the box chooses the same count
 -- for both.
-use mathlib.Core.Path.{_≡_, sym, _∙_, subst}
+use mathlib.Core.Path.{_≡_, refl, sym, _∙_, subst}
 use mathlib.Core.List.{List}
 use Prim.Native.Nat.{ℕ}
 use native.Mathlib.Omega.{arith}
@@ -15,7 +15,7 @@ use Rattle.gaps.specs.Gaps.{gap, gapAfter, gapAlong, largestGap, quits}
 use Rattle.chosen.specs.Chosen.{refusesCount, chosen, chosenOrder, countVerdict, chosenCurve, chosenDrawing}
 use Rattle.chosen.proofs.Least.{from-1, is-accepted, none-smaller, smallest-is}
 use Rattle.flip.specs.Flip.{reversed}
-use Rattle.flip.proofs.Samples.{Reordered, same-long}
+use Rattle.flip.proofs.Samples.{Reordered, same-long, same-cells, Alike}
 use Rattle.flip.proofs.Curves.{point-reversed, curve-reordered}
 
 -- The gap is the same from either end.
@@ -57,7 +57,7 @@ module _ (points : List ℕ) (h : length points ≡ 12) where
       (sym (same-refused (chosen points)) ∙ is-accepted points)
       (λ n l b. sym (same-refused n) ∙ none-smaller points n l b))
 
-  pub chosen-reordered : (mark : ℕ) (choice : Choice) →
+  chosen-reordered : (mark : ℕ) (choice : Choice) →
       Reordered (chosenCurve points mark choice) (chosenCurve (reversed points) mark choice)
   chosen-reordered mark choice =
       subst (λ n. Reordered (chosenCurve points mark choice) (curve n (reversed points) mark choice)) (sym same-chosen)
@@ -71,7 +71,21 @@ module _ (points : List ℕ) (h : length points ≡ 12) where
   unfolding countVerdict chosenOrder
   same-count-verdict S = rw (same-coordinates S)
 
-  pub same-chosen-verdict : (S : ℕ) (mark : ℕ) (choice : Choice) (gridLength : ℕ) →
+  same-chosen-verdict : (S : ℕ) (mark : ℕ) (choice : Choice) (gridLength : ℕ) →
       chosenDrawing S points mark choice .verdict gridLength ≡ chosenDrawing S (reversed points) mark choice .verdict gridLength
   unfolding chosenOrder
   same-chosen-verdict S mark choice gridLength = rw (same-coordinates S)
+
+  -- And do the same.
+  pub chosen-alike : (S mark : ℕ) (choice : Choice) →
+      Alike (chosenDrawing S points mark choice) (chosenDrawing S (reversed points) mark choice)
+  chosen-alike S mark choice =
+      let w = chosen-reordered mark choice in
+      record {
+        side = refl;
+        cells = same-cells w;
+        mark = refl;
+        choice = refl;
+        answer = w .so-many;
+        verdict = same-chosen-verdict S mark choice;
+      }

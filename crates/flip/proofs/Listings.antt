@@ -10,11 +10,11 @@ use Rattle.cube.specs.Cube.{Axis, x-axis, y-axis, z-axis}
 use Rattle.drawing.specs.declared.Choice.{Choice}
 use Rattle.drawing.specs.Object.{Object, curve, offset, cellOf}
 use Rattle.drawing.specs.Refusals.{listVerdict, sampleCount}
-use Rattle.drawing.specs.Drawing.{listed}
+use Rattle.drawing.specs.Drawing.{listingOf, listed}
 use Rattle.drawing.proofs.Accepted.{list-accepted}
 use Rattle.drawing.proofs.Listed.{listed-refused, length-listed, listed-rest, listed-curve}
 use Rattle.scan.specs.declared.answer.ListAnswer.{ListAnswer}
-use Rattle.scan.specs.declared.answer.ListAnswer.the-variants.{Samples, Refused}
+use Rattle.scan.specs.declared.answer.ListAnswer.the-variants.{Accepted, Refused}
 use Rattle.scan.specs.Answer.{listAnswerOf, Lists}
 use Rattle.flip.specs.Flip.{reversed}
 use Rattle.flip.specs.Listings.{SameCell, Reversed, Agree, KeepsRest}
@@ -24,28 +24,28 @@ use Rattle.flip.proofs.Curves.{cell-reversed, curve-reordered}
 -- What two answers to one verdict have in common.
 by-answers : (v : Verdict) (n : ℕ) (list back : List ℕ) (r s : ListAnswer) → listAnswerOf r ≡ outcome v n →
     listAnswerOf s ≡ outcome v n → (v ≡ accepted → Reversed n list back) → Agree list back r s
-by-answers v n list back (Samples a) (Samples b) e f cells =
+by-answers v n list back (Accepted a) (Accepted b) e f cells =
     let g = answer-given v n e in
     let h = answer-given v n f in
     (g .1 ∙ sym (h .1), subst (λ k. Reversed k list back) (sym (g .1)) (cells (g .0)))
-by-answers v n list back (Samples a) (Refused l) e f cells = not-both (sym (answer-refused v n f) ∙ answer-given v n e .0)
-by-answers v n list back (Refused k) (Samples b) e f cells = not-both (sym (answer-refused v n e) ∙ answer-given v n f .0)
+by-answers v n list back (Accepted a) (Refused l) e f cells = not-both (sym (answer-refused v n f) ∙ answer-given v n e .0)
+by-answers v n list back (Refused k) (Accepted b) e f cells = not-both (sym (answer-refused v n e) ∙ answer-given v n f .0)
 by-answers v n list back (Refused k) (Refused l) e f cells = same (sym (answer-refused v n e) ∙ answer-refused v n f)
   where
     same : refused k ≡ refused l → k ≡ l
     same q = cc
 
 -- Any listing keeps the rest of its list.
-pub keeps-rest : (S : ℕ) (o : Object) {list listNow : List ℕ} {r : ListAnswer} → Lists S o list listNow r → KeepsRest list listNow r
+pub keeps-rest : (S : ℕ) (o : Object) {list listNow : List ℕ} {r : ListAnswer} → Lists (listingOf S o) list listNow r → KeepsRest list listNow r
 keeps-rest S o {list} {listNow} {r} c = by-answer r (c .answer)
   where
     by-answer : (r : ListAnswer) → listAnswerOf r ≡ outcome (listVerdict S (length list) o) (sampleCount (o .counts)) →
         KeepsRest list listNow r
-    by-answer (Samples n) e =
+    by-answer (Accepted n) e =
         let so-many = answer-given (listVerdict S (length list) o) (sampleCount (o .counts)) e .1 in
         rw (c .leaves) (length-listed S o list, λ q b. listed-rest S o list q (rw so-many at b))
     by-answer (Refused k) e =
-        c .leaves ∙ listed-refused S o list (answer-refused (listVerdict S (length list) o) (sampleCount (o .counts)) e)
+        c .leaves ∙ listed-refused (listingOf S o) list (answer-refused (listVerdict S (length list) o) (sampleCount (o .counts)) e)
 
 module _ (S n : ℕ) (points : List ℕ) (mark : ℕ) (choice : Choice) (h : length points ≡ 12) where
   abbrev o : Object
@@ -85,7 +85,7 @@ module _ (S n : ℕ) (points : List ℕ) (mark : ℕ) (choice : Choice) (h : len
     }
 
   pub agree : {list back listNow backNow : List ℕ} {r s : ListAnswer} → length list ≡ length back →
-      Lists S o list listNow r → Lists S flip back backNow s → Agree listNow backNow r s
+      Lists (listingOf S o) list listNow r → Lists (listingOf S flip) back backNow s → Agree listNow backNow r s
   agree {list} {back} {r = r} {s} e c d =
       rw (c .leaves, d .leaves)
       (by-answers (listVerdict S (length list) o) (sampleCount (n ∷ [])) _ _ r s (c .answer)

@@ -1,8 +1,8 @@
 -- Objects with the same samples in another order: the same refusals, and drawings that do the same.
-use mathlib.Core.Path.{_≡_, sym, _∙_, ap, fun-ext, subst}
-use mathlib.Core.Logic.{_⊎_, ⊎-elim}
+use mathlib.Core.Path.{_≡_, refl, sym, _∙_, ap, fun-ext, subst}
+use mathlib.Core.Logic.{_↔_, _⊎_, ⊎-elim}
 use mathlib.Core.Bool.{Bool, false, not}
-use mathlib.Core.List.{List, map}
+use mathlib.Core.List.{List, List·Memᴰ}
 use Prim.Native.Nat.{ℕ, _*_}
 use lib.Dec.{T, ltb, eqb}
 use lib.ListN.{length}
@@ -14,12 +14,12 @@ use Rattle.decide.proofs.Refusal.{by-verdict}
 use Rattle.neighbours.specs.Steps.{farApart, Neighbours, LongStep}
 use Rattle.neighbours.proofs.Long.{far-either-way}
 use Rattle.neighbours.proofs.Pairs.{neighbours-pairs}
-use Rattle.cube.specs.Cube.{Axis, volume, place}
+use Rattle.cube.specs.Cube.{Axis, Cell, volume}
 use Rattle.drawing.specs.Object.{Object, scaleOf, exact, cellOf}
 use Rattle.drawing.specs.Refusals.{countOut, coordinateOut, stepsTooLong, sampleCount, order, drawVerdict, listVerdict, checkVerdict}
-use Rattle.drawing.specs.Drawing.{cells, Drawing, drawnBy}
+use Rattle.drawing.specs.Drawing.{cells, Drawing, drawingOf, drawnBy}
 use Rattle.drawing.proofs.Accepted.{steps-too-long}
-use Rattle.drawing.proofs.Drawn.{PlaceOfSample, of-sample, place-listed, drawn-refused, drawn-accepted, drawn-in-any-order}
+use Rattle.drawing.proofs.Drawn.{cells-are, drawn-refused, drawn-accepted, drawn-in-any-order}
 use Rattle.scan.specs.declared.answer.DrawAnswer.{DrawAnswer}
 use Rattle.scan.specs.Answer.{Draws}
 use Rattle.scan.proofs.Unique.{grid-unique, draw-answer-unique}
@@ -39,12 +39,14 @@ module _ {o p : Object} (w : Among o p) where
   unfolding cellOf
   same-cell s = fun-ext (λ a. rw (w .scales, w .value s a))
 
-  place-among : (S : ℕ) {q : ℕ} → PlaceOfSample S o q → PlaceOfSample S p q
-  place-among S c = record {
-    sample = w .to (c .sample);
-    is-sample = w .sample (c .is-sample);
-    at = c .at ∙ ap (place S) (same-cell (c .is-sample));
-  }
+  among-cells : (c : Cell) → List·Memᴰ c (cells o) → List·Memᴰ c (cells p)
+  among-cells c m =
+      let s = cells-are o c .0 m in
+      cells-are p c .1 (record {
+        sample = w .to (s .sample);
+        is-sample = w .sample (s .is-sample);
+        is-its-cell = s .is-its-cell ∙ same-cell (s .is-sample);
+      })
 
   -- A step that is too long stays so.
   far-among : (a : Axis) {is js : List ℕ} → Neighbours (o .counts) is js →
@@ -106,25 +108,44 @@ module _ {o p : Object} (w : Reordered o p) where
   unfolding checkVerdict
   same-check-verdict S = same-order S false false false
 
--- Drawings, of whatever kind, of such objects, with the same side and the same verdicts.
-module _ (d e : Drawing) (side : d .side ≡ e .side) (verdict : (gridLength : ℕ) → d .verdict gridLength ≡ e .verdict gridLength)
-    (w : Reordered (d .object) (e .object)) where
-  -- All samples write one mark, so that their order does not matter.
+  -- And the cells are the same.
+  pub same-cells : (c : Cell) → List·Memᴰ c (cells o) ↔ List·Memᴰ c (cells p)
+  same-cells c = (among-cells (w .there) c, among-cells (w .back) c)
+
+-- Two drawings, of whatever kind, that come to the same cells, in whatever order, with the same mark and choice, and with the same
+-- verdicts and number to answer.
+pub record Alike (d e : Drawing) : Type 0 where
+  pub side : d .side ≡ e .side
+  pub cells : (c : Cell) → List·Memᴰ c (d .cells) ↔ List·Memᴰ c (e .cells)
+  pub mark : d .mark ≡ e .mark
+  pub choice : d .choice ≡ e .choice
+  pub answer : d .answer ≡ e .answer
+  pub verdict : (gridLength : ℕ) → d .verdict gridLength ≡ e .verdict gridLength
+
+-- Document 01's of objects with the same samples.
+pub drawings-alike : (S : ℕ) {o p : Object} → Reordered o p → Alike (drawingOf S o) (drawingOf S p)
+drawings-alike S w = record {
+  side = refl;
+  cells = same-cells w;
+  mark = w .mark;
+  choice = w .choice;
+  answer = w .so-many;
+  verdict = same-draw-verdict w S;
+}
+
+module _ (d e : Drawing) (w : Alike d e) where
+  -- All cells get one mark, so that their order does not matter.
   same-grid : (grid : List ℕ) → drawnBy d grid ≡ drawnBy e grid
   same-grid grid =
       by-verdict (d .verdict (length grid)) _
-      (λ a. sym (drawn-in-any-order d grid a (map (place (e .side)) (cells (e .object)))
-      (λ q. (
-        λ l. rw side (place-among (w .back) (e .side) (of-sample (e .side) (e .object) l)),
-        λ s. place-listed (e .side) (e .object) (place-among (w .there) (e .side) (rw side at s)),
-      ))) ∙
-      rw (w .mark, w .choice) (sym (drawn-accepted e grid (sym (verdict (length grid)) ∙ a))))
-      (λ k r. drawn-refused d grid r ∙ sym (drawn-refused e grid (sym (verdict (length grid)) ∙ r)))
+      (λ a. sym (drawn-in-any-order d grid a (e .cells) (λ c. (w .cells c .1, w .cells c .0))) ∙
+      rw (w .side, w .mark, w .choice) (sym (drawn-accepted e grid (sym (w .verdict (length grid)) ∙ a))))
+      (λ k r. drawn-refused d grid r ∙ sym (drawn-refused e grid (sym (w .verdict (length grid)) ∙ r)))
 
   -- What the one call answers and leaves is what the other would.
   as-the-other : {grid gridNow : List ℕ} {r : DrawAnswer} → Draws d grid gridNow r → Draws e grid gridNow r
   as-the-other {grid} c = record {
-    answer = c .answer ∙ rw (verdict (length grid), w .so-many);
+    answer = c .answer ∙ rw (w .verdict (length grid), w .answer);
     leaves = c .leaves ∙ same-grid grid;
   }
 

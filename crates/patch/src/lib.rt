@@ -44,8 +44,8 @@ pub fn draw_patch(side: u32, patch: Patch, grid: &mut [u8]) -> DrawAnswer
         Verdict::Refused(k) => DrawAnswer::Refused(k),
         Verdict::Accepted => {
             let new_cells = rows::mark_rows(side, patch, grid);
-            let samples = (patch.n + 1) * (patch.m + 1);
-            DrawAnswer::Accepted(Drawn { samples, new_cells })
+            let answer = (patch.n + 1) * (patch.m + 1);
+            DrawAnswer::Accepted(Drawn { answer, new_cells })
         }
     }
 }

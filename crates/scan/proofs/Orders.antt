@@ -17,8 +17,8 @@ use Rattle.decide.proofs.Refusal.{accepted-none, first-append}
 use Rattle.cube.specs.Cube.{sideOut, volume}
 use Rattle.cube.proofs.Words.{side-in}
 use Rattle.drawing.specs.Object.{Object}
-use Rattle.drawing.specs.Refusals.{countOut, coordinateOut, stepsTooLong, order, drawVerdict, listVerdict, sampleCount}
-use Rattle.drawing.specs.Drawing.{Drawing, drawnBy}
+use Rattle.drawing.specs.Refusals.{countOut, coordinateOut, stepsTooLong, order, drawVerdict}
+use Rattle.drawing.specs.Drawing.{Drawing, drawnBy, Listing}
 use Rattle.drawing.specs.NewCells.{unmarkedCells}
 use Rattle.drawing.proofs.Accepted.{coordinate-in}
 use Rattle.drawing.proofs.Drawn.{drawn-refused}
@@ -107,11 +107,11 @@ module _ (d : Drawing) (grid : List ℕ) where
   draws-refused r = record { answer = rw r; leaves = sym (drawn-refused d grid r) }
 
   pub draws-accepted : d .verdict (length grid) ≡ accepted → (after : List ℕ) {count new : ℕ} →
-      after ≡ drawnBy d grid → count ≡ sampleCount (d .object .counts) → new + unmarkedCells after ≡ unmarkedCells grid →
-      Draws d grid after (answers.Accepted (record { samples = count; «new_cells» = new }))
+      after ≡ drawnBy d grid → count ≡ d .answer → new + unmarkedCells after ≡ unmarkedCells grid →
+      Draws d grid after (answers.Accepted (record { answer = count; «new_cells» = new }))
   draws-accepted a after e n k = record { answer = rw (a, n, new-of grid after k); leaves = e }
 
 -- A refused listing's answer and list.
-pub lists-refused : (S : ℕ) (o : Object) (list : List ℕ) {k : ℕ} → listVerdict S (length list) o ≡ refused k →
-    Lists S o list list (listings.Refused k)
-lists-refused S o list r = record { answer = rw r; leaves = sym (listed-refused S o list r) }
+pub lists-refused : (l : Listing) (list : List ℕ) {k : ℕ} → l .verdict (length list) ≡ refused k →
+    Lists l list list (listings.Refused k)
+lists-refused l list r = record { answer = rw r; leaves = sym (listed-refused l list r) }

@@ -17,7 +17,9 @@ use Rattle.drawing.specs.Refusals.{Drawable}
 use Rattle.drawing.specs.Drawing.{row}
 use Rattle.drawing.proofs.Cells.{cell-owns, cell-inside, neighbours-near}
 use Rattle.cubic.specs.Differences.{differencesAt}
-use Rattle.cubic.specs.Room.{Room}
+use Rattle.cubic.specs.declared.axis.Axis as machine
+use Rattle.cubic.specs.Axis.{stepOf}
+use Rattle.cubic.specs.Room.{Room, Steps}
 use Rattle.cubic.specs.Tracks.{Doubles, Tracks}
 use Rattle.cubic.proofs.Tracks.{step-tracks, remainder-owns}
 use Rattle.cubic.proofs.Levels.{tracks-steps}
@@ -49,7 +51,7 @@ abbrev pub along : List ℕ → ℕ → List ℕ
 along is i = i ∷ is
 
 -- A grid's strides.
-pub gridStride : ℕ → Axis → ℕ
+unfoldable pub gridStride : ℕ → Axis → ℕ
 gridStride S x-axis = 1
 gridStride S y-axis = S
 gridStride S z-axis = S * S
@@ -85,7 +87,7 @@ list-small = small-of {stride = λ a. 1} list-stride-is (λ a. lit≤ tt)
 
 -- A step on every axis is a step on each.
 step-on : (scale : ℤ) (h : Strides) (w : Walker) (a : Axis) →
-    axisOf (stepAll scale h w) a ≡ Rattle.cubic.specs.Axis.stepOf scale (strideOf h a) (axisOf w a)
+    axisOf (stepAll scale h w) a ≡ stepOf scale (strideOf h a) (axisOf w a)
 step-on scale h w x-axis = refl
 step-on scale h w y-axis = refl
 step-on scale h w z-axis = refl
@@ -94,14 +96,18 @@ module _ {S : ℕ} {o : Object} {h : Strides} {n : ℕ} {σ : ℕ → List ℕ} 
   abbrev N : ℤ
   N = pos (scaleOf o)
 
-  -- A step leads to the next sample.
+  -- An axis of the machine is at sample i.
+  abbrev pub OnAxis : (a : Axis) (i : ℕ) → machine.Axis → Type 0
+  OnAxis a i = Tracks (scaleOf o) (strideOf h a) (P a) i (cellOf o (σ i) a)
+
+  -- A step leads to the next sample, on each axis.
+  pub axis-next : {i : ℕ} (a : Axis) {m : machine.Axis} → i < n → OnAxis a i m → OnAxis a (suc i) (stepOf N (strideOf h a) m)
+  axis-next {i} a l t =
+      step-tracks (r .doubles a) l (cell-owns (r .drawable) (σ i) a)
+      (neighbours-near (r .drawable) (r .neighbours i l) a) (cell-owns (r .drawable) (σ (suc i)) a) t
+
   pub at-next : {i : ℕ} {w : Walker} → i < n → At o h σ P i w → At o h σ P (suc i) (stepAll N h w)
-  at-next {i} {w} l t = record {
-    on = λ a.
-        rw (step-on N h w a)
-        (step-tracks (r .doubles a) l (cell-owns (r .drawable) (σ i) a)
-        (neighbours-near (r .drawable) (r .neighbours i l) a) (cell-owns (r .drawable) (σ (suc i)) a) (t .on a));
-  }
+  at-next {i} {w} l t = record { on = λ a. rw (step-on N h w a) (axis-next a l (t .on a)) }
 
   -- After i steps the walker stands at sample i.
   pub at-after : {w : Walker} → At o h σ P 0 w → (i : ℕ) → i ≤ n → At o h σ P i (after N h w i)
@@ -109,30 +115,32 @@ module _ {S : ℕ} {o : Object} {h : Strides} {n : ℕ} {σ : ℕ → List ℕ} 
   at-after t zero l = t
   at-after t (suc i) l = at-next l (at-after t i (omega arith))
 
-  module _ {i : ℕ} {w : Walker} (l : i ≤ n) (t : At o h σ P i w) where
-    -- The coordinates are below 64.
-    below : (a : Axis) → cellOf o (σ i) a ≤ 63
-    below a = omega (arith, cell-inside (r .drawable) (r .sample i l) a, r .drawable .side-most)
+  module _ {i : ℕ} (a : Axis) {m : machine.Axis} (l : i ≤ n) (t : OnAxis a i m) where
+    -- The coordinate is below 64.
+    pub below : cellOf o (σ i) a ≤ 63
+    below = omega (arith, cell-inside (r .drawable) (r .sample i l) a, r .drawable .side-most)
 
     -- There is room for a step.
-    pub at-steps : StepsAll N h w
-    at-steps = record {
-      on = λ a.
-          rw (r .stride-is a)
-          (tracks-steps (P a) i (rw (r .stride-is a) at (t .on a)) (r .room a i l)
-          (remainder-owns (t .on a) (exact o a (σ i)) (r .doubles a .agrees i l) .1 (cell-owns (r .drawable) (σ i) a))
-          (r .scale-small) (r .stride-small a) (below a));
-    }
+    pub axis-steps : Steps N (strideOf h a) m
+    axis-steps =
+        rw (r .stride-is a)
+        (tracks-steps (P a) i (rw (r .stride-is a) at t) (r .room a i l)
+        (remainder-owns t (exact o a (σ i)) (r .doubles a .agrees i l) .1 (cell-owns (r .drawable) (σ i) a))
+        (r .scale-small) (r .stride-small a) below)
 
-    -- Each position is the coordinate times the stride.
-    position : (a : Axis) → axisOf w a .at ≡ pos (r .stride a * cellOf o (σ i) a)
-    position a = t .on a .place ∙ ap (λ z. z *ℤ pos (cellOf o (σ i) a)) (r .stride-is a)
+    -- The position is the coordinate times the stride.
+    pub position : m .at ≡ pos (r .stride a * cellOf o (σ i) a)
+    position = t .place ∙ ap (λ z. z *ℤ pos (cellOf o (σ i) a)) (r .stride-is a)
+
+  module _ {i : ℕ} {w : Walker} (l : i ≤ n) (t : At o h σ P i w) where
+    pub at-steps : StepsAll N h w
+    at-steps = record { on = λ a. axis-steps a l (t .on a) }
 
     at-place : HasPlace w
     at-place = record {
       position = λ a. r .stride a * cellOf o (σ i) a;
-      is = position;
-      small = λ a. omega (arith, mul-le-mul (r .stride-small a) (below a));
+      is = λ a. position a l (t .on a);
+      small = λ a. omega (arith, mul-le-mul (r .stride-small a) (below a l (t .on a)));
     }
 
 -- What is read of each walker of a row is what is read of its sample.
@@ -176,7 +184,7 @@ module _ {S : ℕ} {o : Object} {n : ℕ} {is : List ℕ} {P : Axis → ℕ → 
       cells = λ i l a. record {
         byte = cellOf o (i ∷ is) a;
         is = list-position i l a;
-        small = omega (arith, below r l (at-after r t i l) a);
+        small = omega (arith, below r a l (at-after r t i l .on a));
       };
       long = room;
     }

@@ -4,9 +4,7 @@ use mathlib.Core.List.{List}
 use Prim.Native.Nat.{ℕ}
 use lib.ListN.{length}
 use Rattle.decide.specs.Refusal.{Outcome, gives, refuses, outcome}
-use Rattle.drawing.specs.Object.{Object}
-use Rattle.drawing.specs.Refusals.{sampleCount}
-use Rattle.drawing.specs.Drawing.{Drawing}
+use Rattle.drawing.specs.Drawing.{Drawing, Listing}
 use Rattle.drawing.specs.NewCells.{newCells}
 use Rattle.scan.specs.declared.answer.Drawn.{Drawn}
 use Rattle.scan.specs.declared.answer.DrawAnswer.{DrawAnswer}
@@ -21,7 +19,7 @@ drawing (gives d) = draws.Accepted d
 drawing (refuses k) = draws.Refused k
 
 abbrev listing : Outcome ℕ → ListAnswer
-listing (gives n) = lists.Samples n
+listing (gives n) = lists.Accepted n
 listing (refuses k) = lists.Refused k
 
 drawing-said : (r : DrawAnswer) → drawing (drawAnswerOf r) ≡ r
@@ -29,7 +27,7 @@ drawing-said (draws.Accepted d) = refl
 drawing-said (draws.Refused k) = refl
 
 listing-said : (r : ListAnswer) → listing (listAnswerOf r) ≡ r
-listing-said (lists.Samples n) = refl
+listing-said (lists.Accepted n) = refl
 listing-said (lists.Refused k) = refl
 
 module _ (k : Drawing) (grid : List ℕ) {a b : List ℕ} {r s : DrawAnswer} (d : Draws k grid a r) (e : Draws k grid b s) where
@@ -41,12 +39,11 @@ module _ (k : Drawing) (grid : List ℕ) {a b : List ℕ} {r s : DrawAnswer} (d 
       sym (drawing-said r) ∙
       ap drawing (d .answer ∙
       ap (λ g. outcome (k .verdict (length grid))
-      (record { samples = sampleCount (k .object .counts); «new_cells» = newCells grid g })) grid-unique ∙
+      (record { answer = k .answer; «new_cells» = newCells grid g })) grid-unique ∙
       sym (e .answer)) ∙
       drawing-said s
 
-module _ (S : ℕ) (o : Object) (list : List ℕ) {a b : List ℕ} {r s : ListAnswer} (d : Lists S o list a r)
-    (e : Lists S o list b s) where
+module _ (l : Listing) (list : List ℕ) {a b : List ℕ} {r s : ListAnswer} (d : Lists l list a r) (e : Lists l list b s) where
   pub list-unique : a ≡ b
   list-unique = d .leaves ∙ sym (e .leaves)
 

@@ -4,9 +4,7 @@ use mathlib.Core.List.{List}
 use Prim.Native.Nat.{ℕ}
 use lib.ListN.{length}
 use Rattle.decide.specs.Refusal.{Outcome, gives, refuses, outcome}
-use Rattle.drawing.specs.Object.{Object}
-use Rattle.drawing.specs.Refusals.{listVerdict, sampleCount}
-use Rattle.drawing.specs.Drawing.{Drawing, drawnBy, listed}
+use Rattle.drawing.specs.Drawing.{Drawing, drawnBy, Listing, listedBy}
 use Rattle.drawing.specs.NewCells.{newCells}
 use Rattle.scan.specs.declared.answer.Drawn.{Drawn}
 use Rattle.scan.specs.declared.answer.DrawAnswer.{DrawAnswer}
@@ -14,7 +12,7 @@ use Rattle.scan.specs.declared.answer.DrawAnswer.the-variants as draws
 use Rattle.scan.specs.declared.answer.ListAnswer.{ListAnswer}
 use Rattle.scan.specs.declared.answer.ListAnswer.the-variants as lists
 
--- What a drawing's answer says: the numbers of samples and of new cells, or the number that refuses the call.
+-- What a drawing's answer says: its number and that of new cells, or the number that refuses the call.
 abbrev pub drawAnswerOf : DrawAnswer → Outcome Drawn
 drawAnswerOf (draws.Accepted d) = gives d
 drawAnswerOf (draws.Refused k) = refuses k
@@ -23,15 +21,15 @@ drawAnswerOf (draws.Refused k) = refuses k
 -- grid holds afterwards.
 pub record Draws (d : Drawing) (grid gridAfter : List ℕ) (r : DrawAnswer) : Type 0 where
   pub answer : drawAnswerOf r ≡ outcome (d .verdict (length grid))
-      (record { samples = sampleCount (d .object .counts); «new_cells» = newCells grid gridAfter })
+      (record { answer = d .answer; «new_cells» = newCells grid gridAfter })
   pub leaves : gridAfter ≡ drawnBy d grid
 
--- What a listing's answer says: the number of samples, or the number that refuses the call.
+-- What a listing's answer says: its number, or the number that refuses the call.
 abbrev pub listAnswerOf : ListAnswer → Outcome ℕ
-listAnswerOf (lists.Samples k) = gives k
+listAnswerOf (lists.Accepted k) = gives k
 listAnswerOf (lists.Refused k) = refuses k
 
--- A listing: its answer, and what the list holds afterwards.
-pub record Lists (S : ℕ) (o : Object) (list listAfter : List ℕ) (r : ListAnswer) : Type 0 where
-  pub answer : listAnswerOf r ≡ outcome (listVerdict S (length list) o) (sampleCount (o .counts))
-  pub leaves : listAfter ≡ listed S o list
+-- A listing of whatever kind: its answer, and what the list holds afterwards.
+pub record Lists (l : Listing) (list listAfter : List ℕ) (r : ListAnswer) : Type 0 where
+  pub answer : listAnswerOf r ≡ outcome (l .verdict (length list)) (l .answer)
+  pub leaves : listAfter ≡ listedBy l list

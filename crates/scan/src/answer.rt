@@ -1,9 +1,9 @@
 // The answers of drawings and of listings.
 
-// What an accepted drawing answers: the number of its samples, and that of the cells that it turned from unmarked to
-// marked.
+// What an accepted drawing answers: its number, of samples or, along a path, of cells; and that of the cells that it turned
+// from unmarked to marked.
 pub struct Drawn {
-    pub samples: u32,
+    pub answer: u32,
     pub new_cells: u32,
 }
 
@@ -13,8 +13,8 @@ pub enum DrawAnswer {
     Refused(u32),
 }
 
-// What a listing answers: the number of samples, or the refusal's number.
+// What a listing answers: its number, or the refusal's.
 pub enum ListAnswer {
-    Samples(u32),
+    Accepted(u32),
     Refused(u32),
 }

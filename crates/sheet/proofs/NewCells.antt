@@ -10,7 +10,7 @@ use lib.ListN.{length, replicate, length-replicate}
 use Rattle.cube.specs.Cube.{volume}
 use Rattle.drawing.specs.Drawing.{drawingOf, drawn, inTurn}
 use Rattle.drawing.specs.NewCells.{unmarkedCells}
-use Rattle.drawing.proofs.Drawn.{length-drawn}
+use Rattle.drawing.proofs.Drawn.{drawing-fits, length-drawn}
 use Rattle.drawing.proofs.NewCells.{unmarked-cleared, drawn-at-most, turns-new}
 use Rattle.sheet.specs.Sheet.{Stroke, objectOf}
 use Rattle.sheet.specs.Printed.{cubeOf, markedCells}
@@ -42,7 +42,9 @@ module _ (S : ℕ) (strokes : List Stroke) where
   pub new-or-unmarked : newCellsOf S strokes + unmarkedCells (cubeOf S strokes) ≡ volume S
   unfolding newCellsOf cubeOf
   new-or-unmarked =
-      turns-new (λ s. drawn S (objectOf s)) (λ s. drawn-at-most S (objectOf s)) strokes (replicate (volume S) 0) ∙
+      turns-new (λ s. drawn S (objectOf s))
+      (λ s grid. drawn-at-most (drawingOf S (objectOf s)) grid (drawing-fits S (objectOf s) (length grid))) strokes
+      (replicate (volume S) 0) ∙
       unmarked-cleared (volume S)
 
   pub new-marked : newCellsOf S strokes ≡ markedCells (cubeOf S strokes)

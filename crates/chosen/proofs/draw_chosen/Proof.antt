@@ -8,7 +8,7 @@ use lib.ListN.{length}
 use Rattle.decide.specs.Refusal.{accepted}
 use Rattle.decide.specs.Verdict.{verdictOf}
 use Rattle.drawing.specs.Refusals.{drawVerdict, sampleCount}
-use Rattle.drawing.specs.Drawing.{Drawing}
+use Rattle.drawing.specs.Drawing.{Drawing, drawn}
 use Rattle.curve.specs.declared.Curve.{Curve}
 use Rattle.curve.specs.Curve.{curveOf}
 use Rattle.scan.proofs.Orders.{draws-refused, draws-accepted}
@@ -76,8 +76,8 @@ mark-samples-requires c κs =
     subst (λ o. drawVerdict (a .side) (length (now (a .grid))) o ≡ accepted) (sym (with-chosen w))
     (accepted-as-drawn _ _ _ _ _ .0 (is-accepted w))
 
-add-samples : tie.Need-add-samples
-add-samples c =
+add-answer : tie.Need-add-answer
+add-answer c =
     let w = c .before .before .before .before .before in
     let most = chosen-accepted _ (curve w .points) (curve w .mark) (curve w .choice) _ .0 (is-accepted w) .0 .count-most 0 (lit< tt) in
     record { fits = omega (arith, steps-are w, most) }
@@ -95,8 +95,9 @@ unfolding sampleCount
 returns-2 c =
     let m = c .before .before .before in
     let w = m .before .before in
-    draws-accepted (d (b w)) (now (s (b w) .args .grid)) (is-accepted w) _
-    (rw (with-chosen w) at (m .mark-samples .ensures .1) ∙ sym (drawn-as-drawn _ _ _ _ _))
+    let a = s (b w) .args in
+    draws-accepted (d (b w)) (now (a .grid)) (is-accepted w) _
+    (m .mark-samples .ensures .1 ∙ ap (λ o. drawn (a .side) o (now (a .grid))) (with-chosen w) ∙ sym (drawn-as-drawn _ _ _ _ _))
     (omega (arith, steps-are w)) (m .mark-samples .ensures .0)
 
 pub draw-chosen-spec : {M : Type 1} → statement M
@@ -110,7 +111,7 @@ draw-chosen-spec =
     smallest-requires
     with-steps-requires
     mark-samples-requires
-    add-samples
+    add-answer
     returns
     same-length
     returns-2)

@@ -69,8 +69,8 @@ enum-told-2 c = search needs
 mark-samples-requires : tie.Need-mark-samples-requires
 mark-samples-requires c κs = is-accepted (c .before)
 
-add-samples : tie.Need-add-samples
-add-samples c =
+add-answer : tie.Need-add-answer
+add-answer c =
     let d = draw-accepted _ _ _ .0 (is-accepted (c .before .before .before .before .before)) .0 in
     record { fits = omega (arith, d .count-most 0 (lit< tt)) }
 
@@ -115,7 +115,7 @@ draw-curve-spec =
     test-steps-requires
     enum-told-2
     mark-samples-requires
-    add-samples
+    add-answer
     returns
     returns-2
     same-length

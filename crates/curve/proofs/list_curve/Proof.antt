@@ -9,6 +9,7 @@ use lib.Dec.{lit<, ltb}
 use lib.ListN.{length}
 use Rattle.decide.specs.Refusal.{Verdict, accepted, gives, firstThat}
 use Rattle.drawing.specs.Refusals.{order, listVerdict, sampleCount}
+use Rattle.drawing.specs.Drawing.{listingOf}
 use Rattle.drawing.proofs.Accepted.{list-accepted}
 use Rattle.scan.proofs.Orders.{lists-refused}
 use Rattle.curve.specs.Curve.{curveOf, tellsLong}
@@ -81,7 +82,7 @@ add-t16 c =
 returns : tie.Need-returns
 returns c =
     let b = c .before .before .before in
-    lists-refused (s b .args .side) (curveOf (s b .args .curve)) (now (s b .args .list))
+    lists-refused (listingOf (s b .args .side) (curveOf (s b .args .curve))) (now (s b .args .list))
     (judged b ∙
     before-refused (s b .args .side) (s b .args .curve) false false (short b) (b .before-test .result)
     (b .before-test .ensures) (c .before .k .given .1))
@@ -90,7 +91,7 @@ returns-2 : tie.Need-returns-2
 returns-2 c =
     let t = c .before .before in
     let b = t .before .before .before in
-    lists-refused (s b .args .side) (curveOf (s b .args .curve)) (now (s b .args .list))
+    lists-refused (listingOf (s b .args .side) (curveOf (s b .args .curve))) (now (s b .args .list))
     (judged b ∙
     test-refused (s b .args .side) (s b .args .curve) false false (short b) (b .before-test .result)
     (b .before-test .ensures) (t .before .enum-told .given .1) (t .test-steps .ensures .0) (ap tellsLong (c .enum-told2 .given .1)))

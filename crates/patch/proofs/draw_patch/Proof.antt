@@ -49,14 +49,14 @@ enum-told c = search needs
 mark-rows-requires : tie.Need-mark-rows-requires
 mark-rows-requires c κs = judged (c .before .before .before) ∙ ap verdictOf (c .before .enum-told .given .1)
 
-add-samples : tie.Need-add-samples
-add-samples c = let n = counts (c .before .before .before) in record { fits = omega arith }
+add-answer : tie.Need-add-answer
+add-answer c = let n = counts (c .before .before .before) in record { fits = omega arith }
 
-add-samples-2 : tie.Need-add-samples-2
-add-samples-2 c = let n = counts (c .before .before .before .before) in record { fits = omega arith }
+add-answer-2 : tie.Need-add-answer-2
+add-answer-2 c = let n = counts (c .before .before .before .before) in record { fits = omega arith }
 
-mul-samples : tie.Need-mul-samples
-mul-samples c =
+mul-answer : tie.Need-mul-answer
+mul-answer c =
     let n = counts (c .before .before .before .before) in
     let p = s (c .before .before .before .before .before .before .before .before) .args .patch in
     let h : p .n + 1 ≤ 257 = omega arith in
@@ -90,9 +90,9 @@ draw-patch-spec =
     enum-known-k
     enum-told
     mark-rows-requires
-    add-samples
-    add-samples-2
-    mul-samples
+    add-answer
+    add-answer-2
+    mul-answer
     returns
     same-length
     returns-2)

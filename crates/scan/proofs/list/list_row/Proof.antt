@@ -2,38 +2,25 @@
 use borrow.Author.Needs.{needs}
 use denote.Ref.{now}
 use mathlib.Core.Path.{_≡_, refl, ap, _∙_}
-use mathlib.Core.List.{List, [], _∷_, _++_, map, map-append, append-assoc}
+use mathlib.Core.List.{List, _++_, map, map-append, append-assoc}
 use Prim.Native.Nat.{ℕ, suc, _≤_, _<_, _-_, _+_, _*_}
 use native.Mathlib.Numerals.{add-one}
 use native.Mathlib.Omega.{arith}
 use lib.IntN.{ℤ}
-use lib.ListN.{length, drop, length-append, length-drop, length-map}
-use lib.Seq.{sets, sets-eq, length-sets, take-at, drop-append-add, drop-drop}
+use lib.ListN.{length, drop, length-map}
+use lib.Seq.{sets, sets-eq, length-sets}
 use mir.Syntax.{w64}
 use mir.Val.{toZ}
 use mir.Facts.{toZ-ofZ}
-use Rattle.cube.specs.Cube.{Cell}
 use Rattle.drawing.specs.Drawing.{bytes}
 use Rattle.drawing.proofs.Listed.{length-bytes}
 use Rattle.scan.specs.declared.walker.Walker.{Walker}
 use Rattle.scan.specs.declared.walker.Strides.{Strides}
 use Rattle.scan.specs.Walker.{stepAll, after, cellOfWalker, coordinates, ByteCell, walkers, OnList}
+use Rattle.scan.proofs.Written.{bytes-more, written-after}
 use Rattle.scan.proofs.Row.{AfterSteps, no-steps, holds-now, room-now, step-more, length-walkers}
 use Rattle.scan.proofs.list.list_row.Statement.{statement}
 use Rattle.scan.proofs.list.list_row.Tie as tie
-
--- One cell more.
-bytes-more : (cs : List Cell) (c : Cell) → bytes (cs ++ c ∷ []) ≡ bytes cs ++ coordinates c
-unfolding bytes
-bytes-more [] c = refl
-bytes-more (d ∷ cs) c = ap (λ r. coordinates d ++ r) (bytes-more cs c)
-
--- A cell's bytes, written just after the front of a list.
-written-after : (front vs g : List ℕ) (k : ℕ) → length front ≡ k → k + length vs ≤ length g →
-    sets (front ++ drop k g) k vs ≡ front ++ (vs ++ drop (k + length vs) g)
-written-after front vs g k e h =
-    sets-eq vs (front ++ drop k g) k (rw (length-append, length-drop, e) (omega arith)) ∙
-    rw (take-at front (drop k g) k e, ← e, drop-append-add, drop-drop) (append-assoc front vs _)
 
 -- The row so far, where list₀ has the bytes of its first walker.
 record SoFar (scale : ℤ) (h : Strides) (w₀ : Walker) (list₀ : List ℕ) (n i at : ℕ) (w : Walker) (list : List ℕ) :

@@ -2,34 +2,28 @@
 -- many unmarked cells as are counted.
 use borrow.Author.Needs.{needs}
 use denote.Ref.{now}
-use mathlib.Core.Path.{_≡_, refl, sym, _∙_, ap}
-use mathlib.Core.Bool.{Bool, true, false, cond}
+use mathlib.Core.Path.{_≡_, refl, sym, _∙_}
+use mathlib.Core.Bool.{Bool}
 use mathlib.Core.List.{List, map, map-append}
 use Prim.Native.Nat.{ℕ, suc, _+_, _≤_, _<_, _-_}
 use native.Mathlib.Numerals.{add-one}
 use native.Mathlib.Omega.{arith}
-use lib.Dec.{eqb}
 use lib.IntN.{ℤ}
-use lib.ListN.{length, getD, length-set}
+use lib.ListN.{length, length-set}
 use mir.Syntax.{w64}
 use mir.Val.{toZ, boolByte}
 use mir.Facts.{toZ-ofZ}
 use Rattle.drawing.specs.declared.Choice.{Choice}
-use Rattle.drawing.specs.Drawing.{written, marked}
+use Rattle.drawing.specs.Drawing.{marked}
 use Rattle.drawing.specs.NewCells.{unmarkedCells}
-use Rattle.drawing.proofs.Marked.{markedAt, written-marked, marked-append}
-use Rattle.drawing.proofs.NewCells.{unmarked-set}
+use Rattle.drawing.proofs.Marked.{markedAt, marked-append}
 use Rattle.scan.specs.declared.walker.Walker.{Walker}
 use Rattle.scan.specs.declared.walker.Strides.{Strides}
 use Rattle.scan.specs.Walker.{stepAll, HasPlace, placeOf, walkers, OnGrid}
+use Rattle.scan.proofs.Written.{counted, one-more}
 use Rattle.scan.proofs.Row.{AfterSteps, no-steps, holds-now, room-now, step-more}
 use Rattle.scan.proofs.mark.mark_row.Statement.{statement}
 use Rattle.scan.proofs.mark.mark_row.Tie as tie
-
--- Whether a cell was unmarked, as the number that is added.
-counted : (b : Bool) → (boolByte b ≡ cond b 1 0) × (boolByte b ≤ 1)
-counted true = (refl, omega arith)
-counted false = (refl, omega arith)
 
 -- The row so far, where grid₀ has the mark of its first walker and new₀ counts that cell if it was unmarked.
 record SoFar (scale : ℤ) (h : Strides) (mark : ℕ) (choice : Choice) (w₀ : Walker) (grid₀ : List ℕ) (new₀ n i : ℕ) (w : Walker)
@@ -41,14 +35,6 @@ record SoFar (scale : ℤ) (h : Strides) (mark : ℕ) (choice : Choice) (w₀ : 
   pub size : length grid ≡ length grid₀
   pub fewer : new + unmarkedCells grid ≡ new₀ + unmarkedCells grid₀
   pub few : new ≤ 1 + i
-
--- A mark at a place, over or under, and what it adds to the count.
-module _ (mark : ℕ) (choice : Choice) (h : 1 ≤ mark) (grid : List ℕ) (p : ℕ) (l : p < length grid) where
-  one-more : (b : Bool) → b ≡ eqb (getD grid p 0) 0 →
-      boolByte b + unmarkedCells (markedAt choice mark grid p) ≡ unmarkedCells grid
-  one-more b e =
-      ap (_+ unmarkedCells (markedAt choice mark grid p)) (counted b .0 ∙ ap (λ t. cond t 1 0) e) ∙
-      unmarked-set (written choice mark (getD grid p 0)) (written-marked choice (getD grid p 0) h) grid p l
 
 module _ (scale : ℤ) (h : Strides) (mark : ℕ) (choice : Choice) (w₀ : Walker) where
   -- With the first mark.

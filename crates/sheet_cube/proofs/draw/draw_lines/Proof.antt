@@ -121,7 +121,9 @@ module _ (c : tie.After-mark-samples Inv-loop μ-loop) where
       c .mark-samples .result +
       unmarkedCells (drawn (side (start (l before))) (objectOf (strokeOf drawn-line)) (l before .before .loop .cube))
       ≡ unmarkedCells (l before .before .loop .cube)
-  fewer = rw (c .mark-samples .ensures .1, is-curve before) at (c .mark-samples .ensures .0)
+  fewer =
+      rw (c .mark-samples .ensures .1 ∙
+      ap (λ o. drawn (side (start (l before))) o (l before .before .loop .cube)) (is-curve before)) at (c .mark-samples .ensures .0)
 
 add-new-cells : tie.Need-add-new-cells Inv-loop μ-loop
 add-new-cells c =
@@ -147,7 +149,10 @@ loop-again : tie.Need-loop-again Inv-loop μ-loop
 loop-again c =
     let m = c .before .before in
     let r = m .before .before in (
-      rw (add-one (k (l r)), m .mark-samples .ensures .1, is-curve r)
+      rw (
+        add-one (k (l r)),
+        m .mark-samples .ensures .1 ∙ ap (λ o. drawn (side (start (l r))) o (l r .before .loop .cube)) (is-curve r),
+      )
           (one-more (sheet (start (l r))) (to-come (l r)) (so-far (l r)) (m .mark-samples .result) (fewer m)),
       omega (arith, to-come (l r)),
     )
