@@ -23,7 +23,7 @@ use Rattle.chosen.proofs.Answers.{count-answer-unique}
 use Rattle.patch.specs.declared.Patch.{Patch}
 use Rattle.patch.specs.Patch.{patchOf}
 use Rattle.flip.specs.Flip.{pointsAt, reversed, flippedCurve, flippedPatch}
-use Rattle.flip.proofs.Samples.{Reordered, same-draw-verdict, same-check-verdict, draw-the-same}
+use Rattle.flip.proofs.Samples.{Reordered, same-check-verdict, Alike, drawings-alike, draw-the-same}
 use Rattle.flip.proofs.Curves as curves
 use Rattle.flip.proofs.Patches as patches
 use Rattle.flip.proofs.Counts as counts
@@ -31,17 +31,16 @@ use Rattle.flip.proofs.Listings as listings
 use Rattle.claims.specs.Known.{holds}
 use Rattle.claims.specs.Flips.{DrawTheSame, CurveFlip, PatchFlip, Claim, K3AndK4}
 
--- Drawings of objects with the same samples, with the same side and the same verdicts.
-do-the-same : (d e : Drawing) → d .side ≡ e .side → ((gridLength : ℕ) → d .verdict gridLength ≡ e .verdict gridLength) →
-    Reordered (d .object) (e .object) → DrawTheSame d e
-do-the-same d e side verdict w = record {
-  answer = λ c f. draw-the-same d e side verdict w c f .0;
-  grid = λ c f. draw-the-same d e side verdict w c f .1;
+-- Drawings of whatever kind that are alike.
+do-the-same : (d e : Drawing) → Alike d e → DrawTheSame d e
+do-the-same d e w = record {
+  answer = λ c f. draw-the-same d e w c f .0;
+  grid = λ c f. draw-the-same d e w c f .1;
 }
 
 -- Document 01's drawings of objects with the same samples.
 drawn-the-same : (S : ℕ) {o p : Object} → Reordered o p → DrawTheSame (drawingOf S o) (drawingOf S p)
-drawn-the-same S {o} {p} w = do-the-same (drawingOf S o) (drawingOf S p) refl (same-draw-verdict w S) w
+drawn-the-same S {o} {p} w = do-the-same (drawingOf S o) (drawingOf S p) (drawings-alike S w)
 
 module _ (S : ℕ) (c : Curve) (h : length (c .points) ≡ 12) where
   abbrev n : ℕ
@@ -69,8 +68,7 @@ module _ (S : ℕ) (c : Curve) (h : length (c .points) ≡ 12) where
         ap (outcome (countVerdict S (reversed (c .points)))) (sym (counts.same-chosen (c .points) h)) ∙ sym f);
     chosen-drawings =
         do-the-same (chosenDrawing S (c .points) (c .mark) (c .choice)) (chosenDrawing S (reversed (c .points)) (c .mark) (c .choice))
-        refl (counts.same-chosen-verdict (c .points) h S (c .mark) (c .choice))
-        (counts.chosen-reordered (c .points) h (c .mark) (c .choice));
+        (counts.chosen-alike (c .points) h S (c .mark) (c .choice));
   }
 
 module _ (S : ℕ) (p : Patch) (h : length (p .points) ≡ 48) where

@@ -1,6 +1,6 @@
 -- Demand 3 speaks of something: an accepted curve exists, a refused one leaves the grid, a later stroke over an earlier
--- one leaves both marks in view, one that goes under leaves the earlier, cells are new where they were unmarked, and a patch
--- with a half in each of two rows has no slit. Computed, in cubes of side 2 and 3.
+-- one leaves both marks in view, one that goes under leaves the earlier, a face-to-face curve marks the cells between, cells are
+-- new where they were unmarked, and a patch with a half in each of two rows has no slit. Computed, in cubes of side 2 and 3.
 use mathlib.Core.Path.{_≡_, refl}
 use mathlib.Core.List.{List, [], _∷_}
 use Prim.Native.Nat.{ℕ}
@@ -13,13 +13,14 @@ use Rattle.neighbours.specs.Steps.{farApart, someSample, tooLong}
 use Rattle.cube.specs.Cube.{someAxis, sideOut, place}
 use Rattle.drawing.specs.declared.Choice.{Choice}
 use Rattle.drawing.specs.declared.Choice.the-variants.{Over, Under}
-use Rattle.drawing.specs.Object.{offset, coordinate, exact, cellOf}
+use Rattle.drawing.specs.Object.{curve, offset, coordinate, exact, cellOf}
 use Rattle.drawing.specs.Refusals.{countOut, coordinateOut, stepsTooLong, order, drawVerdict}
 use Rattle.drawing.specs.Drawing.{row, rows, samples, written, marked, cells, drawnBy, inTurn}
 use Rattle.drawing.specs.NewCells.{unmarkedCells, newCells}
 use Rattle.gaps.specs.Gaps.{gap, gapAfter, gapAlong, largestGap}
 use Rattle.chosen.specs.Chosen.{refusesCount, firstAccepted, chosen, chosenOrder}
-use Rattle.claims.specs.Demand3.{Call, draw-curve, draw-patch, draw-chosen, run, Accepted}
+use Rattle.path.specs.Path.{moved, move, moves, onward, path, pathLength}
+use Rattle.claims.specs.Demand3.{Call, draw-curve, draw-patch, draw-chosen, draw-path, run, Accepted}
 
 -- Along x from (0, 0, 0) to (1, 0, 0), and along y from (0, 0, 0) to (0, 1, 0), in one step each.
 abbrev along-x : Choice → ℕ → Call
@@ -66,6 +67,22 @@ unfolding blend scale points value someBelow someOf firstThat nearest farApart s
     someAxis sideOut place offset coordinate exact cellOf countOut coordinateOut stepsTooLong order drawVerdict row rows samples
     written marked cells drawnBy inTurn run gap gapAfter gapAlong largestGap refusesCount firstAccepted chosen chosenOrder
 with-a-chosen-count = (refl, refl)
+
+-- From (0, 0, 0) to (1, 1, 1), from corner to corner in one step.
+abbrev corners : List ℕ
+corners = 0 ∷ 0 ∷ 0 ∷ 0 ∷ 0 ∷ 0 ∷ 1 ∷ 1 ∷ 1 ∷ 1 ∷ 1 ∷ 1 ∷ []
+
+-- The curve marks the two corners. The face-to-face curve marks (1, 0, 0) and (1, 1, 0) between them as well, which is as long as
+-- a path of one step can be; from under it leaves the earlier marks.
+pub between-corners :
+    (run (draw-curve 2 1 corners 100 Over ∷ []) held ≡ 100 ∷ 2 ∷ 3 ∷ 4 ∷ 5 ∷ 6 ∷ 7 ∷ 100 ∷ []) ×
+    (run (draw-path 2 1 corners 100 Over ∷ []) held ≡ 100 ∷ 100 ∷ 3 ∷ 100 ∷ 5 ∷ 6 ∷ 7 ∷ 100 ∷ []) ×
+    (pathLength (curve 1 corners 100 Over) ≡ 4) ×
+    (run (along-x Over 100 ∷ draw-path 2 1 corners 200 Under ∷ []) (replicate 8 0) ≡ 100 ∷ 100 ∷ 0 ∷ 200 ∷ 0 ∷ 0 ∷ 0 ∷ 200 ∷ [])
+unfolding blend scale points value someBelow someOf firstThat nearest farApart someSample tooLong
+    someAxis sideOut place offset coordinate exact cellOf countOut coordinateOut stepsTooLong order drawVerdict row rows samples
+    written marked cells drawnBy inTurn run moved move moves onward path pathLength
+between-corners = (refl, refl, refl, refl)
 
 -- From an unmarked cube the first of the two has two new cells, the second, which shares one of its two with the first,
 -- one, over or under, and the first once more, with another mark, none; a cell that both samples of a stroke share is new once.

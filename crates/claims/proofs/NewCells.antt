@@ -1,20 +1,15 @@
 -- Document 02, A.10 holds. Different places are different cells, so the places that a drawing turns to marked, each once,
 -- are cells, each once; and a listing has a line for each marked cell, the totals a count of the others.
-use mathlib.Core.Path.{_≡_, sym, _∙_, ap, fun-ext}
-use mathlib.Core.List.{List, [], _∷_, map, Memᴰ·map, Memᴰ·of-map, Memᴰ·cast}
+use mathlib.Core.Path.{_≡_, refl, sym, _∙_, ap, fun-ext}
+use mathlib.Core.List.{List, [], _∷_, map, List·Memᴰ, Memᴰ·map, Memᴰ·of-map, Memᴰ·cast}
 use Prim.Native.Nat.{ℕ, _+_}
 use lib.ListN.{length, getD, length-map}
-use Rattle.bezier.specs.Exact.{Sample}
 use Rattle.decide.specs.Refusal.{accepted}
-use Rattle.cube.specs.Cube.{place, cellAt}
+use Rattle.cube.specs.Cube.{Cell, place, cellAt}
 use Rattle.cube.proofs.Places.{cell-at-place, place-of-cell}
-use Rattle.drawing.specs.Object.{Object, cellOf}
-use Rattle.drawing.specs.Refusals.{drawVerdict}
-use Rattle.drawing.specs.Drawing.{drawn}
+use Rattle.drawing.specs.Drawing.{Drawing, drawnBy}
 use Rattle.drawing.specs.NewCells.{Different}
-use Rattle.drawing.proofs.Accepted.{draw-accepted}
-use Rattle.drawing.proofs.Cells.{cell-inside}
-use Rattle.drawing.proofs.Drawn.{PlaceOfSample}
+use Rattle.drawing.proofs.Drawn.{cells-are, PlaceOf, Fits}
 use Rattle.drawing.proofs.NewCells.{new-of, new-places, drawn-at-most}
 use Rattle.sheet.specs.Sheet.{Stroke}
 use Rattle.sheet.specs.Printed.{cubeOf}
@@ -22,7 +17,9 @@ use Rattle.sheet.specs.Call.{newCellsOf}
 use Rattle.sheet.proofs.Lines.{listing-lines}
 use Rattle.sheet.proofs.NewCells.{new-marked, new-or-unmarked}
 use Rattle.totals.proofs.Marks.{count-unmarked}
+use Rattle.claims.specs.Demand3.{drawingBy}
 use Rattle.claims.specs.NewCells.{TurnsToMarked, AddUpToMarked, Claim}
+use Rattle.claims.proofs.Supplied.{supplied}
 
 -- What is different stays so under a map that can be undone.
 different-map : {A B : Type 0} (f : A → B) (g : B → A) → ((a : A) → g (f a) ≡ a) → (l : List A) → Different l → Different (map f l)
@@ -32,36 +29,29 @@ different-map f g back (a ∷ l) d = (
   different-map f g back l (d .1),
 )
 
-module _ (S : ℕ) (o : Object) (grid : List ℕ) (e : drawVerdict S (length grid) o ≡ accepted) where
-  -- A sample's cell is the one that stands at its place.
-  cell-there : {is : List ℕ} → Sample (o .counts) is → cellAt S (place S (cellOf o is)) ≡ cellOf o is
-  cell-there {is} s =
-      fun-ext (cell-at-place S (cellOf o is) (cell-inside (draw-accepted S o (length grid) .0 e .0) s))
+module _ (d : Drawing) (grid : List ℕ) (e : d .verdict (length grid) ≡ accepted) (fits : Fits d (length grid)) where
+  -- One of the drawing's cells is the one that stands at its place.
+  cell-there : {c : Cell} → List·Memᴰ c (d .cells) → cellAt (d .side) (place (d .side) c) ≡ c
+  cell-there {c} m = fun-ext (cell-at-place (d .side) c (fits .inside c m))
 
-  turns-to-marked : TurnsToMarked S o grid
+  turns-to-marked : TurnsToMarked d grid
   turns-to-marked =
-      let n = new-places S o grid e in
+      let S : ℕ = d .side in
+      let n = new-places d grid e fits in
       record {
-        at-most = drawn-at-most S o grid;
-        cells = map (cellAt S) (n .places);
+        at-most = drawn-at-most d grid (λ _. fits);
+        new = map (cellAt S) (n .places);
         are-different = different-map (cellAt S) (place S) (place-of-cell S) (n .places) (n .different);
         are-these = λ c. (
           λ m. let w = Memᴰ·of-map (cellAt S) (n .places) m in
               let p = n .are (w .0) .0 (w .1) in (
-                record {
-                  sample = p .0 .sample;
-                  is-sample = p .0 .is-sample;
-                  is-its-cell = sym (w .2) ∙ ap (cellAt S) (p .0 .at) ∙ cell-there (p .0 .is-sample);
-                },
+                Memᴰ·cast (sym (w .2) ∙ ap (cellAt S) (p .0 .at) ∙ cell-there (p .0 .is-one)) (p .0 .is-one),
                 ap (λ q. getD grid q 0) (ap (place S) (sym (w .2)) ∙ place-of-cell S (w .0)) ∙ p .1,
               ),
-          λ u. let s = u .0 in
-              let p : PlaceOfSample S o (place S c) =
-              record { sample = s .sample; is-sample = s .is-sample; at = ap (place S) (s .is-its-cell) } in
-              Memᴰ·cast (s .is-its-cell ∙ sym (cell-there (s .is-sample)) ∙ ap (λ d. cellAt S (place S d)) (sym (s .is-its-cell)))
-              (Memᴰ·map (cellAt S) (n .are (place S c) .1 (p, u .1))),
+          λ u. let p : PlaceOf S (d .cells) (place S c) = record { cell = c; is-one = u .0; at = refl } in
+              Memᴰ·cast (sym (cell-there (u .0))) (Memᴰ·map (cellAt S) (n .are (place S c) .1 (p, u .1))),
         );
-        so-many = sym (new-of grid (drawn S o grid) (n .count)) ∙ sym (length-map (n .places) (cellAt S));
+        so-many = sym (new-of grid (drawnBy d grid) (n .count)) ∙ sym (length-map (n .places) (cellAt S));
       }
 
 add-up-to-marked : (S : ℕ) (strokes : List Stroke) → AddUpToMarked S strokes
@@ -72,4 +62,8 @@ add-up-to-marked S strokes = record {
 }
 
 pub claim : Claim
-claim = record { drawing = turns-to-marked; sheet = add-up-to-marked }
+claim = record {
+  drawing = λ call grid e. turns-to-marked (drawingBy call) grid e (supplied call .fits (length grid) e);
+  cells-of-samples = cells-are;
+  sheet = add-up-to-marked;
+}

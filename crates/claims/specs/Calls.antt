@@ -7,11 +7,12 @@ use Rattle.scan.specs.Answer.{Draws}
 use Rattle.curve.specs.declared.Curve.{Curve}
 use Rattle.curve.specs.Curve.{curveOf}
 use Rattle.chosen.specs.Chosen.{chosenDrawing}
+use Rattle.path.specs.Path.{pathDrawing}
 use Rattle.patch.specs.declared.Patch.{Patch}
 use Rattle.patch.specs.Patch.{patchOf}
-use Rattle.claims.specs.Demand3.{Call, draw-curve, draw-patch, draw-chosen}
+use Rattle.claims.specs.Demand3.{Call, draw-curve, draw-patch, draw-chosen, draw-path}
 
--- A call of `draw_curve`, one of `draw_patch`, and one of `draw_chosen`.
+-- A call of `draw_curve`, one of `draw_patch`, one of `draw_chosen`, and one of `draw_path`.
 abbrev pub curveCall : (side : ℕ) → Curve → Call
 curveCall side c = draw-curve side (c .steps) (c .points) (c .mark) (c .choice)
 
@@ -21,7 +22,10 @@ patchCall side p = draw-patch side (p .n) (p .m) (p .points) (p .mark) (p .choic
 abbrev pub chosenCall : (side : ℕ) → Curve → Call
 chosenCall side c = draw-chosen side (c .points) (c .mark) (c .choice)
 
--- Calls of the three functions in turn, each with the grid as the last one left it, as their contracts have it: the list
+abbrev pub pathCall : (side : ℕ) → Curve → Call
+pathCall side c = draw-path side (c .steps) (c .points) (c .mark) (c .choice)
+
+-- Calls of the four functions in turn, each with the grid as the last one left it, as their contracts have it: the list
 -- of calls, the grid at the start and the grid in the end.
 pub data Called : List Call → List ℕ → List ℕ → Type 0 where
   none : {grid : List ℕ} → Called [] grid grid
@@ -32,3 +36,5 @@ pub data Called : List Call → List ℕ → List ℕ → Type 0 where
   chosen-then : {side : ℕ} (c : Curve) {r : DrawAnswer} {calls : List Call} {grid next after : List ℕ} →
       Draws (chosenDrawing side (c .points) (c .mark) (c .choice)) grid next r → Called calls next after →
       Called (chosenCall side c ∷ calls) grid after
+  path-then : {side : ℕ} {c : Curve} {r : DrawAnswer} {calls : List Call} {grid next after : List ℕ} →
+      Draws (pathDrawing side (curveOf c)) grid next r → Called calls next after → Called (pathCall side c ∷ calls) grid after

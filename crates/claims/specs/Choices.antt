@@ -4,41 +4,54 @@ use mathlib.Core.Logic.{_↔_}
 use mathlib.Core.List.{List, map, List·Memᴰ}
 use Prim.Native.Nat.{ℕ}
 use lib.ListN.{length, getD}
-use Rattle.decide.specs.Refusal.{accepted}
 use Rattle.cube.specs.Cube.{Cell, Inside, place}
 use Rattle.drawing.specs.declared.Choice.{Choice}
 use Rattle.drawing.specs.declared.Choice.the-variants.{Over, Under}
 use Rattle.drawing.specs.Object.{Object, going}
-use Rattle.drawing.specs.Refusals.{drawVerdict, listVerdict, checkVerdict}
-use Rattle.drawing.specs.Drawing.{marked, drawn, listed}
+use Rattle.drawing.specs.Refusals.{checkVerdict}
+use Rattle.drawing.specs.Drawing.{marked, Drawing, drawnBy, listingOf}
 use Rattle.drawing.specs.NewCells.{newCells}
+use Rattle.path.specs.Path.{pathListing}
 use Rattle.sheet.specs.Sheet.{Stroke, objectOf}
-use Rattle.claims.specs.NewCells.{CellOfSample}
+use Rattle.claims.specs.Demand3.{Call, draw-curve, draw-patch, draw-chosen, draw-path, drawingBy, Accepted}
 
--- What an accepted drawing does to the cells of a cube of side S. Under, a cell that was marked holds what it held; one of
--- the samples' cells that was unmarked holds the mark. Over, each of the samples' cells holds the mark. Either way no
--- other cell changes, and the samples' cells in any order, some of them more often than others, leave the same grid.
-pub record OverOrUnder (S : ℕ) (o : Object) (grid : List ℕ) : Type 0 where
-  pub under-keeps : o .choice ≡ Under → (c : Cell) → Inside S c → ¬ (getD grid (place S c) 0 ≡ 0) →
-      getD (drawn S o grid) (place S c) 0 ≡ getD grid (place S c) 0
-  pub under-fills : o .choice ≡ Under → (c : Cell) → CellOfSample o c → getD grid (place S c) 0 ≡ 0 →
-      getD (drawn S o grid) (place S c) 0 ≡ o .mark
-  pub over-marks : o .choice ≡ Over → (c : Cell) → CellOfSample o c → getD (drawn S o grid) (place S c) 0 ≡ o .mark
-  pub others-stay : (c : Cell) → Inside S c → ¬ CellOfSample o c →
-      getD (drawn S o grid) (place S c) 0 ≡ getD grid (place S c) 0
-  pub in-any-order : (cells : List Cell) → ((c : Cell) → List·Memᴰ c cells ↔ CellOfSample o c) →
-      marked (o .choice) (o .mark) (map (place S) cells) grid ≡ drawn S o grid
+-- What an accepted drawing, of whatever kind, does to the cells of its cube. Under, a cell that was marked holds what it held;
+-- one of the drawing's cells that was unmarked holds the mark. Over, each of the drawing's cells holds the mark. Either way no
+-- other cell changes, and the drawing's cells in any order, some of them more often than others, leave the same grid.
+pub record OverOrUnder (d : Drawing) (grid : List ℕ) : Type 0 where
+  pub under-keeps : d .choice ≡ Under → (c : Cell) → Inside (d .side) c → ¬ (getD grid (place (d .side) c) 0 ≡ 0) →
+      getD (drawnBy d grid) (place (d .side) c) 0 ≡ getD grid (place (d .side) c) 0
+  pub under-fills : d .choice ≡ Under → (c : Cell) → List·Memᴰ c (d .cells) → getD grid (place (d .side) c) 0 ≡ 0 →
+      getD (drawnBy d grid) (place (d .side) c) 0 ≡ d .mark
+  pub over-marks : d .choice ≡ Over → (c : Cell) → List·Memᴰ c (d .cells) →
+      getD (drawnBy d grid) (place (d .side) c) 0 ≡ d .mark
+  pub others-stay : (c : Cell) → Inside (d .side) c → ¬ List·Memᴰ c (d .cells) →
+      getD (drawnBy d grid) (place (d .side) c) 0 ≡ getD grid (place (d .side) c) 0
+  pub in-any-order : (cells : List Cell) → ((c : Cell) → List·Memᴰ c cells ↔ List·Memᴰ c (d .cells)) →
+      marked (d .choice) (d .mark) (map (place (d .side)) cells) grid ≡ drawnBy d grid
 
--- What goes by no choice: the refusals of a drawing, a listing and a check, what a listing leaves, and how many cells are
--- new, of accepted and refused drawings alike.
-pub record ByNoChoice (S : ℕ) (o : Object) (choice : Choice) : Type 0 where
-  pub drawing-refusals : (gridLength : ℕ) → drawVerdict S gridLength (going choice o) ≡ drawVerdict S gridLength o
-  pub check-refusals : checkVerdict S (going choice o) ≡ checkVerdict S o
-  pub listing-refusals : (listLength : ℕ) → listVerdict S listLength (going choice o) ≡ listVerdict S listLength o
-  pub listing : (list : List ℕ) → listed S (going choice o) list ≡ listed S o list
-  pub as-many-new : (grid : List ℕ) → newCells grid (drawn S (going choice o) grid) ≡ newCells grid (drawn S o grid)
+-- The same call with a choice of its own.
+abbrev pub goingBy : Choice → Call → Call
+goingBy choice (draw-curve side n points mark _) = draw-curve side n points mark choice
+goingBy choice (draw-patch side n m points mark _) = draw-patch side n m points mark choice
+goingBy choice (draw-chosen side points mark _) = draw-chosen side points mark choice
+goingBy choice (draw-path side n points mark _) = draw-path side n points mark choice
+
+-- What goes by no choice in a call that draws: its refusals, and how many cells are new, whether it is accepted or refused.
+pub record ByNoChoice (call : Call) (choice : Choice) : Type 0 where
+  pub drawing-refusals : (gridLength : ℕ) →
+      drawingBy (goingBy choice call) .verdict gridLength ≡ drawingBy call .verdict gridLength
+  pub as-many-new : (grid : List ℕ) →
+      newCells grid (drawnBy (drawingBy (goingBy choice call)) grid) ≡ newCells grid (drawnBy (drawingBy call) grid)
+
+-- A check and both listings ignore the choice: the same refusals, and of a listing the same cells and the same answer.
+pub record IgnoresChoice (S : ℕ) (o : Object) (choice : Choice) : Type 0 where
+  pub check : checkVerdict S (going choice o) ≡ checkVerdict S o
+  pub listing : listingOf S (going choice o) ≡ listingOf S o
+  pub path-listing : pathListing S (going choice o) ≡ pathListing S o
 
 pub record Claim : Type 0 where
-  pub drawing : (S : ℕ) (o : Object) (grid : List ℕ) → drawVerdict S (length grid) o ≡ accepted → OverOrUnder S o grid
-  pub by-no-choice : (S : ℕ) (o : Object) (choice : Choice) → ByNoChoice S o choice
+  pub drawing : (call : Call) (grid : List ℕ) → Accepted (length grid) call → OverOrUnder (drawingBy call) grid
+  pub by-no-choice : (call : Call) (choice : Choice) → ByNoChoice call choice
+  pub ignores-choice : (S : ℕ) (o : Object) (choice : Choice) → IgnoresChoice S o choice
   pub sheets-mean-over : (s : Stroke) → objectOf s .choice ≡ Over

@@ -38,7 +38,7 @@ pub record Claim : Type 0 where
   pub smallest : (points : List ℕ) → Smallest points
   pub at-a-side : (S : ℕ) (points : List ℕ) → countVerdict S points ≡ accepted → AtASide S points
   -- With any side and any record the draw call is accepted exactly where the drawing with the chosen count is, and leaves the
-  -- same grid, so that what is claimed of every drawing is claimed of it.
+  -- same grid.
   pub accepted-as-drawn : (S : ℕ) (points : List ℕ) (mark : ℕ) (choice : Choice) (gridLength : ℕ) →
       (chosenDrawing S points mark choice .verdict gridLength ≡ accepted) ↔
       (drawVerdict S gridLength (chosenCurve points mark choice) ≡ accepted)

@@ -11,7 +11,7 @@ use Rattle.decide.specs.Verdict.{verdictOf}
 use Rattle.cube.specs.Cube.{Axis}
 use Rattle.drawing.specs.Object.{exact, cellOf}
 use Rattle.drawing.specs.Refusals.{checkVerdict}
-use Rattle.drawing.specs.Drawing.{Drawing, drawingOf}
+use Rattle.drawing.specs.Drawing.{Drawing, drawingOf, listingOf}
 use Rattle.gaps.specs.Gaps.{quits}
 use Rattle.scan.specs.declared.answer.DrawAnswer.{DrawAnswer}
 use Rattle.scan.specs.declared.answer.ListAnswer.{ListAnswer}
@@ -48,7 +48,7 @@ pub record CurveFlip (S : ℕ) (c : Curve) : Type 0 where
   pub cells : (i : ℕ) → i ≤ c .steps → cellOf (curveOf (flippedCurve c)) ((c .steps - i) ∷ []) ≡ cellOf (curveOf c) (i ∷ [])
   -- The listings.
   pub listings : {list back listNow backNow : List ℕ} {r s : ListAnswer} → length list ≡ length back →
-      Lists S (curveOf c) list listNow r → Lists S (curveOf (flippedCurve c)) back backNow s →
+      Lists (listingOf S (curveOf c)) list listNow r → Lists (listingOf S (curveOf (flippedCurve c))) back backNow s →
       ListInReverse list back listNow backNow r s
   -- The drawings, over or under.
   pub drawings : DrawTheSame (drawingOf S (curveOf c)) (drawingOf S (curveOf (flippedCurve c)))

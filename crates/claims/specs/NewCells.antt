@@ -4,33 +4,25 @@ use mathlib.Core.Logic.{_↔_}
 use mathlib.Core.List.{List, List·Memᴰ}
 use Prim.Native.Nat.{ℕ, _+_, _≤_}
 use lib.ListN.{length, getD}
-use Rattle.bezier.specs.Exact.{Sample}
-use Rattle.decide.specs.Refusal.{accepted}
 use Rattle.cube.specs.Cube.{Cell, volume, place}
-use Rattle.drawing.specs.Object.{Object, cellOf}
-use Rattle.drawing.specs.Refusals.{drawVerdict}
-use Rattle.drawing.specs.Drawing.{drawn}
+use Rattle.drawing.specs.Object.{Object}
+use Rattle.drawing.specs.Drawing.{cells, CellOfSample, Drawing, drawnBy}
 use Rattle.drawing.specs.NewCells.{unmarkedCells, newCells, Different}
 use Rattle.sheet.specs.Line.{lines}
 use Rattle.sheet.specs.Sheet.{Stroke}
 use Rattle.sheet.specs.Printed.{cubeOf, listing, markedCells}
 use Rattle.sheet.specs.Call.{newCellsOf}
 use Rattle.totals.specs.Totals.{count}
+use Rattle.claims.specs.Demand3.{Call, drawingBy, Accepted}
 
--- A cell is that of one of the object's samples.
-pub record CellOfSample (o : Object) (c : Cell) : Type 0 where
-  pub sample : List ℕ
-  pub is-sample : Sample (o .counts) sample
-  pub is-its-cell : c ≡ cellOf o sample
-
--- An accepted drawing leaves at most as many unmarked cells as there were, and the difference is the number of different
--- cells among its samples' that were unmarked.
-pub record TurnsToMarked (S : ℕ) (o : Object) (grid : List ℕ) : Type 0 where
-  pub at-most : unmarkedCells (drawn S o grid) ≤ unmarkedCells grid
-  pub cells : List Cell
-  pub are-different : Different cells
-  pub are-these : (c : Cell) → List·Memᴰ c cells ↔ (CellOfSample o c × (getD grid (place S c) 0 ≡ 0))
-  pub so-many : newCells grid (drawn S o grid) ≡ length cells
+-- An accepted drawing, of whatever kind, leaves at most as many unmarked cells as there were, and the difference is the number of
+-- different cells among its own that were unmarked.
+pub record TurnsToMarked (d : Drawing) (grid : List ℕ) : Type 0 where
+  pub at-most : unmarkedCells (drawnBy d grid) ≤ unmarkedCells grid
+  pub new : List Cell
+  pub are-different : Different new
+  pub are-these : (c : Cell) → List·Memᴰ c new ↔ (List·Memᴰ c (d .cells) × (getD grid (place (d .side) c) 0 ≡ 0))
+  pub so-many : newCells grid (drawnBy d grid) ≡ length new
 
 -- Over the strokes of a sheet, from its cleared cube, the counts add up to the marked cells of the cube; these are the
 -- lines of its listing without the heading, and all cells but those that the totals count for mark 0.
@@ -40,5 +32,7 @@ pub record AddUpToMarked (S : ℕ) (strokes : List Stroke) : Type 0 where
   pub totalled : newCellsOf S strokes + count (cubeOf S strokes) 0 ≡ volume S
 
 pub record Claim : Type 0 where
-  pub drawing : (S : ℕ) (o : Object) (grid : List ℕ) → drawVerdict S (length grid) o ≡ accepted → TurnsToMarked S o grid
+  pub drawing : (call : Call) (grid : List ℕ) → Accepted (length grid) call → TurnsToMarked (drawingBy call) grid
+  -- The cells of a drawing: those of its samples; of a face-to-face curve, the path through them.
+  pub cells-of-samples : (o : Object) (c : Cell) → List·Memᴰ c (cells o) ↔ CellOfSample o c
   pub sheet : (S : ℕ) (strokes : List Stroke) → AddUpToMarked S strokes
