@@ -11,16 +11,17 @@ use Rattle.decide.specs.Refusal.{Rule, _when_, Verdict, accepted, refused, Outc
 use Rattle.decide.proofs.Truth.{true-of, false-of, less}
 use Rattle.decide.proofs.Refusal.{telling-outcome, first-applies, first-passes}
 use Rattle.drawing.specs.Object.{Object}
-use Rattle.drawing.specs.Refusals.{checkVerdict, sampleCount}
-use Rattle.drawing.specs.Drawing.{Drawing}
+use Rattle.drawing.specs.Refusals.{checkVerdict}
+use Rattle.drawing.specs.Drawing.{Drawing, Listing}
 use Rattle.drawing.specs.NewCells.{newCells}
 use Rattle.scan.specs.declared.answer.Drawn.{Drawn}
 use Rattle.scan.specs.declared.answer.DrawAnswer.{DrawAnswer}
-use Rattle.scan.specs.Answer.{drawAnswerOf, Draws}
+use Rattle.scan.specs.declared.answer.ListAnswer.{ListAnswer}
+use Rattle.scan.specs.Answer.{drawAnswerOf, Draws, listAnswerOf, Lists}
 use Rattle.flip.specs.Flip.{exchanged}
 use Rattle.exports.specs.Signed.{minus, signedOf, signed, otherLength, ownFirst}
-use Rattle.exports.specs.Records.{noChoice, recordOrder, drawOrder, Calls, ChecksBytes, samplesOf, newCellsAfter, DrawsBytes}
-use Rattle.exports.specs.Records.{flipOrder, FlipsBytes, FlipsPatchBytes}
+use Rattle.exports.specs.Records.{noChoice, recordOrder, drawOrder, Calls, ChecksBytes, answerOf, newCellsAfter, DrawsBytes}
+use Rattle.exports.specs.Records.{ListsBytes, flipOrder, FlipsBytes, FlipsPatchBytes}
 
 -- A record has its length or not, and for a drawing the choice is one or not.
 module _ (size : ℕ) (bytes : List ℕ) where
@@ -89,51 +90,50 @@ module _ (size S : ℕ) (o : Object) (told : Object → ℕ) {r : ℤ} where
       (found ∙ ap (λ q. outcome (checkVerdict S q) (told q)) same) e
 
 -- A listing.
-module _ (size : ℕ) (bytes : List ℕ) (v : Verdict) (n : ℕ) (left before : List ℕ) where
-  pub wrong-listing : {r : ℤ} → (length bytes ≡ size → ⊥) → r ≡ minus 51 →
-      Calls (recordOrder size bytes) v n left before before r
-  wrong-listing w e = own-call (recordOrder size bytes) v n left before (wrong-length size bytes [] w) e
+module _ (size : ℕ) (points : List ℕ) (l : Listing) (list : List ℕ) where
+  pub wrong-listing : {r : ℤ} → (length points ≡ size → ⊥) → r ≡ minus 51 → ListsBytes size points l list list r
+  wrong-listing w e = own-call (recordOrder size points) _ _ _ _ (wrong-length size points [] w) e
 
-  pub right-listing : {a : Outcome ℕ} {after : List ℕ} {r : ℤ} → length bytes ≡ size → a ≡ outcome v n → after ≡ left →
-      r ≡ signedOf a → Calls (recordOrder size bytes) v n left before after r
-  right-listing h s l e = passed-call (recordOrder size bytes) v n left before (right-length size bytes h) s l e
+  -- By the listing that the record's bytes stand for.
+  pub right-listing : (p : Listing) {after : List ℕ} {a : ListAnswer} {r : ℤ} →
+      length points ≡ size → p ≡ l → Lists p list after a → r ≡ signedOf (listAnswerOf a) → ListsBytes size points l list after r
+  right-listing p h same t e =
+      let t′ = rw same at t in
+      passed-call (recordOrder size points) _ _ _ _ (right-length size points h) (t′ .answer) (t′ .leaves) e
 
 -- A drawing.
-module _ (size choice : ℕ) (d : Drawing) (grid : List ℕ) where
-  abbrev o : Object
-  o = d .object
-
+module _ (size : ℕ) (points : List ℕ) (choice : ℕ) (d : Drawing) (grid : List ℕ) where
   abbrev own : List Rule
-  own = drawOrder size (o .points) choice
+  own = drawOrder size points choice
 
   refused-drawing : {k new : ℕ} {r : ℤ} → firstThat own ≡ refused k → r ≡ minus k →
-      DrawsBytes size choice d grid grid new new r
+      DrawsBytes size points choice d grid grid new new r
   refused-drawing {new = new} w e = record {
     call = own-call own _ _ _ _ w e;
     new-cells =
         sym (ap (λ u. refusal.leaves (orElse u (d .verdict (length grid))) (newCells grid grid) new) w);
   }
 
-  pub wrong-record : {new : ℕ} {r : ℤ} → (length (o .points) ≡ size → ⊥) → r ≡ minus 51 →
-      DrawsBytes size choice d grid grid new new r
-  wrong-record w e = refused-drawing (wrong-length size (o .points) (55 when noChoice choice ∷ []) w) e
+  pub wrong-record : {new : ℕ} {r : ℤ} → (length points ≡ size → ⊥) → r ≡ minus 51 →
+      DrawsBytes size points choice d grid grid new new r
+  wrong-record w e = refused-drawing (wrong-length size points (55 when noChoice choice ∷ []) w) e
 
-  pub wrong-number : {new : ℕ} {r : ℤ} → length (o .points) ≡ size → 1 < choice → r ≡ minus 55 →
-      DrawsBytes size choice d grid grid new new r
-  wrong-number h w e = refused-drawing (wrong-choice size (o .points) h w) e
+  pub wrong-number : {new : ℕ} {r : ℤ} → length points ≡ size → 1 < choice → r ≡ minus 55 →
+      DrawsBytes size points choice d grid grid new new r
+  wrong-number h w e = refused-drawing (wrong-choice size points h w) e
 
   -- By the drawing that the record's bytes and the choice's number stand for.
   pub right-drawing : (p : Drawing) {after : List ℕ} {a : DrawAnswer} {new newNow : ℕ} {r : ℤ} →
-      length (o .points) ≡ size → choice ≤ 1 → p ≡ d → Draws p grid after a →
-      r ≡ signedOf (samplesOf (drawAnswerOf a)) → newNow ≡ newCellsAfter (drawAnswerOf a) new →
-      DrawsBytes size choice d grid after new newNow r
+      length points ≡ size → choice ≤ 1 → p ≡ d → Draws p grid after a →
+      r ≡ signedOf (answerOf (drawAnswerOf a)) → newNow ≡ newCellsAfter (drawAnswerOf a) new →
+      DrawsBytes size points choice d grid after new newNow r
   right-drawing p {after} {new = new} h k same t e q =
       let v : Verdict = d .verdict (length grid) in
-      let counts : Drawn = record { samples = sampleCount (o .counts); «new_cells» = newCells grid after } in
+      let counts : Drawn = record { answer = d .answer; «new_cells» = newCells grid after } in
       let t′ = rw same at t in
-      let passed = right-choice size (o .points) h k in
+      let passed = right-choice size points h k in
       record {
-        call = passed-call own v _ _ _ passed (ap samplesOf (t′ .answer) ∙ telling-outcome (λ k. k .samples) v counts) (t′ .leaves) e;
+        call = passed-call own v _ _ _ passed (ap answerOf (t′ .answer) ∙ telling-outcome (λ k. k .answer) v counts) (t′ .leaves) e;
         new-cells =
             q ∙ ap (λ a. newCellsAfter a new) (t′ .answer) ∙ new-outcome v counts new ∙
             ap (λ u. refusal.leaves (orElse u v) (newCells grid after) new) (sym passed);

@@ -12,8 +12,8 @@ use Rattle.decide.specs.Refusal.{Rule, _when_, Verdict, Outcome, gives, refuses
 use Rattle.drawing.specs.declared.Choice.{Choice}
 use Rattle.drawing.specs.declared.Choice.the-variants.{Over, Under}
 use Rattle.drawing.specs.Object.{Object}
-use Rattle.drawing.specs.Refusals.{checkVerdict, listVerdict, sampleCount}
-use Rattle.drawing.specs.Drawing.{Drawing, drawnBy, listed}
+use Rattle.drawing.specs.Refusals.{checkVerdict}
+use Rattle.drawing.specs.Drawing.{Drawing, drawnBy, Listing, listedBy}
 use Rattle.drawing.specs.NewCells.{newCells}
 use Rattle.scan.specs.declared.answer.Drawn.{Drawn}
 use Rattle.chosen.specs.Chosen.{chosen, countVerdict}
@@ -61,27 +61,27 @@ quitOf = telling quitNumber
 abbrev pub CountsBytes : (size S : ℕ) (points : List ℕ) (r : ℤ) → Type 0
 CountsBytes size S points r = r ≡ signed (ownFirst (recordOrder size points) (countVerdict S points)) (chosen points)
 
--- Of what a drawing answers, the number of samples, and what stands for its new cells afterwards: their number, or where it
--- is refused what was there.
-abbrev pub samplesOf : Outcome Drawn → Outcome ℕ
-samplesOf = telling (λ d. d .samples)
+-- Of what a drawing answers, its number, and what stands for its new cells afterwards: their number, or where it is refused
+-- what was there.
+abbrev pub answerOf : Outcome Drawn → Outcome ℕ
+answerOf = telling (λ d. d .answer)
 
 abbrev pub newCellsAfter : Outcome Drawn → (before : ℕ) → ℕ
 newCellsAfter (gives d) before = d .«new_cells»
 newCellsAfter (refuses k) before = before
 
--- A drawing of whatever kind, with the number of its choice: the number of samples, or minus the number; the grid; and the number of new
--- cells.
-pub record DrawsBytes (size choice : ℕ) (d : Drawing) (grid gridNow : List ℕ) (new newNow : ℕ) (r : ℤ) : Type 0 where
-  pub call : Calls (drawOrder size (d .object .points) choice) (d .verdict (length grid)) (sampleCount (d .object .counts))
-      (drawnBy d grid) grid gridNow r
+-- A drawing of whatever kind, with the record's bytes and the number of its choice: its number, or minus the refusal's; the
+-- grid; and the number of new cells.
+pub record DrawsBytes (size : ℕ) (points : List ℕ) (choice : ℕ) (d : Drawing)
+    (grid gridNow : List ℕ) (new newNow : ℕ) (r : ℤ) : Type 0 where
+  pub call : Calls (drawOrder size points choice) (d .verdict (length grid)) (d .answer) (drawnBy d grid) grid gridNow r
   pub new-cells : newNow ≡
-      refusal.leaves (ownFirst (drawOrder size (d .object .points) choice) (d .verdict (length grid))) (newCells grid gridNow) new
+      refusal.leaves (ownFirst (drawOrder size points choice) (d .verdict (length grid))) (newCells grid gridNow) new
 
--- A listing: the number of samples, or minus the number; and the list.
-abbrev pub ListsBytes : (size S : ℕ) (o : Object) (list listNow : List ℕ) (r : ℤ) → Type 0
-ListsBytes size S o list listNow r =
-    Calls (recordOrder size (o .points)) (listVerdict S (length list) o) (sampleCount (o .counts)) (listed S o list) list listNow r
+-- A listing of whatever kind, with the record's bytes: its number, or minus the refusal's; and the list.
+abbrev pub ListsBytes : (size : ℕ) (points : List ℕ) (l : Listing) (list listNow : List ℕ) (r : ℤ) → Type 0
+ListsBytes size points l list listNow r =
+    Calls (recordOrder size points) (l .verdict (length list)) (l .answer) (listedBy l list) list listNow r
 
 -- A flip from bytes to bytes: 51 where the points have another length than such a record's, 52 where what they are written to has.
 abbrev pub flipOrder : (size : ℕ) (points flipped : List ℕ) → List Rule
@@ -90,12 +90,12 @@ flipOrder size points flipped =
     52 when otherLength size flipped ∷
     []
 
--- Of a curve: 0, or minus the number; and the flip's points.
+-- Of a curve or a patch: 0, or minus the number; and the flip's points.
 abbrev pub FlipsBytes : (size : ℕ) (flip : List ℕ → List ℕ) (points flipped flippedNow : List ℕ) (r : ℤ) → Type 0
 FlipsBytes size flip points flipped flippedNow r =
     Calls (flipOrder size points flipped) accepted 0 (flip points) flipped flippedNow r
 
--- Of a patch: and the flip's step counts, which are n and m exchanged, or where it is refused what they were.
+-- Of a patch besides: the flip's step counts, which are n and m exchanged, or where it is refused what they were.
 pub record FlipsPatchBytes (points : List ℕ) (n m nNow mNow : ℕ) (flipped flippedNow : List ℕ) (r : ℤ) : Type 0 where
   pub call : FlipsBytes 48 exchanged points flipped flippedNow r
   pub along-t : nNow ≡ refusal.leaves (firstThat (flipOrder 48 points flipped)) m n

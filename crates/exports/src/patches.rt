@@ -51,7 +51,8 @@ pub extern "C" fn gidzkhalu_draw_patch(
     grid: &mut [u8],
     new_cells: &mut u32,
 ) -> i64
-    ensures { λ r. ⌜ DrawsBytes 48 choice (drawingOf side (patch n m (now (points .entry)) mark (choiceOf choice)))
+    ensures { λ r. ⌜ DrawsBytes 48 (now (points .entry)) choice
+        (drawingOf side (patch n m (now (points .entry)) mark (choiceOf choice)))
         (now (grid .entry)) (now (grid .exit)) (now («new_cells» .entry)) (now («new_cells» .exit)) r ⌝ }
 {
     if points.len() != 48 {

@@ -9,7 +9,7 @@ ghost use Rattle.scan.specs.Answer.{drawAnswerOf, listAnswerOf};
 ghost use Rattle.curve.specs.Curve.{checkAnswerOf};
 ghost use Rattle.chosen.specs.Chosen.{countAnswerOf};
 ghost use Rattle.exports.specs.Signed.{minus, signed, signedOf};
-ghost use Rattle.exports.specs.Records.{choiceOf, quitOf, samplesOf, newCellsAfter};
+ghost use Rattle.exports.specs.Records.{choiceOf, quitOf, answerOf, newCellsAfter};
 use chosen::CountAnswer;
 use curve::CheckAnswer;
 use decide::Verdict;
@@ -62,25 +62,25 @@ pub(crate) fn of_verdict(verdict: Verdict) -> i64
     }
 }
 
-// Of a listing: the number of samples.
+// Of a listing: its number.
 pub(crate) fn of_listing(answer: ListAnswer) -> i64
     ensures { λ r. ⌜ (r ≡ signedOf (listAnswerOf answer)) × Within (2 ^ 32) r ⌝ }
 {
     match answer {
-        ListAnswer::Samples(count) => accepted(count),
+        ListAnswer::Accepted(count) => accepted(count),
         ListAnswer::Refused(number) => refused(number),
     }
 }
 
-// Of a drawing: the number of samples. That of new cells is written where the drawing is accepted.
+// Of a drawing: its number. That of new cells is written where the drawing is accepted.
 pub(crate) fn of_drawing(answer: DrawAnswer, new_cells: &mut u32) -> i64
-    ensures { λ r. ⌜ (r ≡ signedOf (samplesOf (drawAnswerOf answer))) × Within (2 ^ 32) r ⌝ }
+    ensures { λ r. ⌜ (r ≡ signedOf (answerOf (drawAnswerOf answer))) × Within (2 ^ 32) r ⌝ }
     ensures { λ _. ⌜ now («new_cells» .exit) ≡ newCellsAfter (drawAnswerOf answer) (now («new_cells» .entry)) ⌝ }
 {
     match answer {
         DrawAnswer::Accepted(drawn) => {
             *new_cells = drawn.new_cells;
-            accepted(drawn.samples)
+            accepted(drawn.answer)
         }
         DrawAnswer::Refused(number) => refused(number),
     }

@@ -13,14 +13,14 @@ refused-requires c κs = search needs
 
 returns : tie.Need-returns
 returns c =
-    wrong-record 12 _ _ _ (c .before .if1 .taken) (reads (c .refused .ensures))
+    wrong-record 12 _ _ _ _ (c .before .if1 .taken) (reads (c .refused .ensures))
 
 refused-requires-2 : tie.Need-refused-requires-2
 refused-requires-2 c κs = search needs
 
 returns-2 : tie.Need-returns-2
 returns-2 c =
-    wrong-number 12 _ _ _ (omega (arith, c .before .before .if1 .left)) (omega (arith, c .before .if2 .taken))
+    wrong-number 12 _ _ _ _ (omega (arith, c .before .before .if1 .left)) (omega (arith, c .before .if2 .taken))
     (reads (c .refused2 .ensures))
 
 choice-of-requires : tie.Need-choice-of-requires
@@ -43,7 +43,7 @@ returns-3 c =
     let k = c .before .before .before .before in
     let m = k .before .before in
     let h = m .before .before in
-    right-drawing 12 _ _ _ _ (omega (arith, h .before .if1 .left)) (omega (arith, h .if2 .left))
+    right-drawing 12 _ _ _ _ _ (omega (arith, h .before .if1 .left)) (omega (arith, h .if2 .left))
     (ap (drawingOf _) (rw (m .before .choice-of .ensures) at (m .curve-of .ensures))) (k .draw-curve .ensures) (reads (c .of-drawing .ensures .0))
     (c .of-drawing .ensures .1)
 

@@ -1,6 +1,10 @@
 -- `gidzkhalu_list_curve` meets its contract: the record's length is judged, then the call.
 use borrow.Author.Needs.{needs}
+use mathlib.Core.Path.{ap}
 use native.Mathlib.Omega.{arith}
+use Rattle.drawing.specs.declared.Choice.the-variants.{Over}
+use Rattle.drawing.specs.Object.{curve}
+use Rattle.drawing.specs.Drawing.{listingOf}
 use Rattle.exports.proofs.Small.{reads}
 use Rattle.exports.proofs.Calls.{wrong-listing, right-listing}
 use Rattle.exports.proofs.curves.gidzkhalu_list_curve.Statement.{statement}
@@ -12,7 +16,8 @@ refused-requires c κs = search needs
 returns : tie.Need-returns
 returns c =
     let s = c .before .before .before .before in
-    wrong-listing 12 (s .args .points .now) _ _ _ _ (c .before .if1 .taken) (reads (c .refused .ensures))
+    wrong-listing 12 (s .args .points .now) (listingOf (s .args .side) (curve (s .args .steps) (s .args .points .now) 0 Over)) _
+    (c .before .if1 .taken) (reads (c .refused .ensures))
 
 curve-of-requires : tie.Need-curve-of-requires
 curve-of-requires c κs = search needs
@@ -31,9 +36,8 @@ returns-2 c =
     let k = c .before .before .before in
     let m = k .before .before in
     let e = m .before in
-    let d = rw (m .curve-of .ensures) at (k .list-curve .ensures) in
-    right-listing 12 (e .before .before .before .args .points .now) _ _ _ _ (omega (arith, e .if1 .left)) (d .answer) (d .leaves)
-    (reads (c .of-listing .ensures))
+    right-listing 12 (e .before .before .before .args .points .now) _ _ _ (omega (arith, e .if1 .left))
+    (ap (listingOf _) (m .curve-of .ensures)) (k .list-curve .ensures) (reads (c .of-listing .ensures))
 
 pub gidzkhalu-list-curve-spec : {M : Type 1} → statement M
 gidzkhalu-list-curve-spec =

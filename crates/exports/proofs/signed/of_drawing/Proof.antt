@@ -4,7 +4,7 @@ use denote.Ref.{now}
 use mathlib.Core.Path.{sym, _∙_, ap}
 use Rattle.scan.specs.Answer.{drawAnswerOf}
 use Rattle.exports.specs.Signed.{signedOf}
-use Rattle.exports.specs.Records.{samplesOf, newCellsAfter}
+use Rattle.exports.specs.Records.{answerOf, newCellsAfter}
 use Rattle.exports.proofs.Small.{small-read}
 use Rattle.exports.proofs.signed.of_drawing.Statement.{statement}
 use Rattle.exports.proofs.signed.of_drawing.Tie as tie
@@ -24,14 +24,14 @@ refused-requires c κs = search needs
 returns : tie.Need-returns
 returns c =
     let k = c .before .before .answer .given in (
-      small-read (c .accepted .ensures .0 ∙ sym (ap (λ a. signedOf (samplesOf (drawAnswerOf a))) (k .1))) (c .accepted .ensures .1),
+      small-read (c .accepted .ensures .0 ∙ sym (ap (λ a. signedOf (answerOf (drawAnswerOf a))) (k .1))) (c .accepted .ensures .1),
       sym (ap (λ a. newCellsAfter (drawAnswerOf a) (now (c .before .before .before .before .args .new-cells))) (k .1)),
     )
 
 returns-2 : tie.Need-returns-2
 returns-2 c =
     let k = c .before .before .answer2 .given in (
-      small-read (c .refused .ensures .0 ∙ sym (ap (λ a. signedOf (samplesOf (drawAnswerOf a))) (k .1))) (c .refused .ensures .1),
+      small-read (c .refused .ensures .0 ∙ sym (ap (λ a. signedOf (answerOf (drawAnswerOf a))) (k .1))) (c .refused .ensures .1),
       sym (ap (λ a. newCellsAfter (drawAnswerOf a) (now (c .before .before .before .before .args .new-cells))) (k .1)),
     )
 
