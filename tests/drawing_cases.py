@@ -7,8 +7,9 @@ exactly on a half, how many neighbours of the accepted patches have had their ce
 count of new cells is another number or a wrong drawing leaves another grid, for how many curves the test quit, walked, or
 would have quit but for another number, to how many a wrong test would give another answer, how many chosen counts are three
 times the gap or less, to how many calls a wrong choice would give another answer, how many calls were made with a record
-and with its flip, with how many different records and how many that have a sample on a half, and how many calls and flips
-would show a wrong flip.  The forms of both are described in crates/drawing_cases/src.
+and with its flip, with how many different records and how many that have a sample on a half, how many calls and flips would
+show a wrong flip, how many drawings of a path leave another grid from the other end, and to how many calls with a path a
+wrong way would give another answer, grid or list.  The forms of both are described in crates/drawing_cases/src.
 """
 
 import random
@@ -18,13 +19,14 @@ from itertools import combinations, permutations, product
 from math import prod
 
 from model import (
-    CHESSBOARD, HALVES_IN_BOTH_ROWS, K1_TO_K11, OF_THE_COUNT, OF_THE_DRAWING, OVER, SELDOM_WRONG, THE_SAME_SAMPLES,
-    UNDER, WRONG_CHECKS, WRONG_CHOSEN, WRONG_FLIPS, WRONG_WAYS, Answer, Chosen, Record, broken_chosen_laws,
-    broken_laws, cells, cells_with_halves_to_even, cells_with_halves_up, check_curve, check_refusal, choose_steps,
-    chosen_count, chosen_told_apart, curve, demand_3, distances_line, draw, draw_chosen, enough, flip, grid_of_points,
-    has_half, in_reverse, is_on_half, list_curve, near_quitting, neighbour_distances, on_axis, patch, place, places,
-    quits, refused_by, refuses_count, row, run, samples, steps_too_long, told_apart, unmarked, with_chosen_count,
-    with_other_choice, wrong_checks, wrong_flips, wrong_searches,
+    CHESSBOARD, HALVES_IN_BOTH_ROWS, K1_TO_K11, OF_THE_COUNT, OF_THE_DRAWING, OVER, PATH_ORDERS, PATHS_OF_K, SELDOM_WRONG,
+    THE_SAME_SAMPLES, UNDER, WRONG_CHECKS, WRONG_CHOSEN, WRONG_FLIPS, WRONG_PATH_WAYS, WRONG_WAYS, Answer, Chosen, Path,
+    Record, broken_chosen_laws, broken_laws, broken_path_laws, cells, cells_with_halves_to_even, cells_with_halves_up,
+    check_curve, check_refusal, choose_steps, chosen_count, chosen_told_apart, curve, demand_3, distances_line, draw,
+    draw_chosen, draw_path, enough, flip, from_cell_to_cell, grid_of_points, has_half, in_reverse, is_on_half, list_curve,
+    list_path, near_quitting, neighbour_distances, on_axis, other_end_line, patch, path, path_cells, place, places, quits,
+    refused_by, refuses_count, row, run, samples, steps_too_long, told_apart, unmarked, with_chosen_count,
+    with_other_choice, wrong_checks, wrong_flips, wrong_path_drawings, wrong_path_listings, wrong_searches,
 )  # fmt: skip
 from stored import answer_record, case_record, malformed, store
 
@@ -57,14 +59,18 @@ def count_chosen(side, record, lent):
 
 CALLS = {
     "D": draw, "L": list_curve, "C": curve_checked, "P": draw, "Q": patch_checked, "M": count_chosen, "W": draw_chosen,
+    "T": draw_path, "U": list_path,
 }  # fmt: skip
-ON_PATCHES, DRAWINGS, CHOOSING = "PQ", "DPW", "MW"
+ON_PATCHES, DRAWINGS, CHOOSING, WITH_PATHS = "PQ", "DPWT", "MW", "TU"
+CALLED_TWICE = [letter for letter in CALLS if letter not in WITH_PATHS]  # the flip rule does not speak of paths
 
 
 def right_length(letter, side, n):
-    """The bytes that a call asks for: a grid, a list or nothing."""
+    """The bytes that a call asks for: a grid, a list, of a path the longest with n steps, or nothing."""
     if letter == "L":
         return 3 * (n + 1)
+    if letter == "U":
+        return 3 * (3 * n + 1)
     return side**3 if letter in DRAWINGS else 0
 
 
@@ -106,9 +112,11 @@ class Cases:
         self.checks_told = Counter()  # the calls with a curve, by the wrong checks that give another answer, and letter
         self.chosen = Counter()  # the calls that choose a count, by letter and how it lies to three times the gap
         self.chosen_told = Counter()  # the calls that choose a count, by the wrong ways that answer otherwise, and letter
-        self.records_called = {letter: set() for letter in CALLS}  # the sides and records of the calls with a record
+        self.records_called = {letter: set() for letter in CALLED_TWICE}  # the sides and records of the calls made twice
         self.on_half = Counter()  # the accepted calls with a record that has a sample on a half, by letter
         self.flips_told = Counter()  # the calls and flips, by letter, number of parameters and wrong flip that they show
+        self.other_end = Counter()  # the accepted drawings of a path, by whether one from the other end leaves the same
+        self.paths_told = Counter()  # the calls with a path, by letter and the wrong ways that give another answer
 
     def add(self, letter, numbers, answer, kind, form="d"):
         """One case with its answer."""
@@ -150,22 +158,41 @@ class Cases:
         if letter == "W":
             assert not broken_chosen_laws(side, record, lent, answer), record
             record = with_chosen_count(record) if drawn else record
-        elif letter in DRAWINGS:
+        elif letter in DRAWINGS and letter not in WITH_PATHS:
             assert not broken_laws(side, record, lent, answer), record
-        else:
+        elif letter != "T":
             assert CALLS[letter](side, with_other_choice(record), lent) == answer, record
         if drawn:
-            kind = "none" if answer.new == 0 else "all" if answer.new == len(places(side, record)) else "some"
+            cells_of = path_cells if letter == "T" else cells
+            new_of = len(places(side, record, cells_of))
+            kind = "none" if answer.new == 0 else "all" if answer.new == new_of else "some"
             self.unmarked[letter, record.choice, kind] += 1
-            self.told.update(told_apart(side, record, lent, answer))
+            told = self.paths_told if letter == "T" else self.told
+            told.update(told_apart(side, record, lent, answer, cells_of))
         if letter == "L" and answer.refusal is None:
             found = {*halves(record)}
             self.halves.update(found | ({("any axis", "any way")} if found else set()))
         if letter in ON_PATCHES and answer.refusal is None:
             self.distances.update(neighbour_distances(record, cells(record)))
         self.on_half[letter] += answer.refusal is None and letter != "M" and has_half(record)
-        self.call_flips(letter, side, called, lent, answer)
+        if letter in WITH_PATHS:
+            self.count_path(letter, side, record, lent, answer)
+        else:
+            self.call_flips(letter, side, called, lent, answer)
         return answer
+
+    def count_path(self, letter, side, record, lent, answer):
+        """The laws of a call with a path; which wrong ways give another answer; whether the flip leaves another grid."""
+        wrong = wrong_path_drawings if letter == "T" else wrong_path_listings
+        self.paths_told.update((letter, way) for way in wrong(side, record, lent, answer))
+        if letter == "U":
+            assert list_path(side, record._replace(mark=record.mark ^ 255), lent) == answer, record
+            assert answer.refusal is None or answer.lent == lent, record
+            return
+        assert not broken_laws(side, record, lent, answer, draw_path, path_cells), record
+        if answer.refusal is None:
+            assert not broken_path_laws(side, record), record
+            self.other_end[draw_path(side, flip(record), lent).lent == answer.lent] += 1
 
     def call_flips(self, letter, side, record, lent, answer):
         """The call with the record's flip agrees; which wrong flips would not, where a record has few samples."""
@@ -1142,7 +1169,7 @@ def flips(cases, dice):
 
 def flip_lines(cases):
     """How often a call was made with a record and with its flip, and what would show a wrong flip."""
-    for letter in CALLS:
+    for letter in CALLED_TWICE:
         calls = sum(count for (called, _), count in cases.answered.items() if called == letter)
         different, halves = len(cases.records_called[letter]), cases.on_half[letter]
         yield f"{letter} with a record and with its flip: {calls} calls, {different} different; accepted with a half: {halves}"
@@ -1155,10 +1182,281 @@ def flip_lines(cases):
         yield f"a patch flipped wrongly, {way}: seen by {drawings} drawings, {checks} checks and {flipped} flips"
 
 
+def list_a_path(cases, side, record, length=None):
+    """A listing of a path, by default as long as its cells take and two bytes more, which holds bytes; its answer."""
+    length = 3 * len(path(record)) + 2 if length is None else length
+    cases.fill(length, 17, 3)
+    return cases.call("U", side, record, length)
+
+
+def path_samples(cases):
+    """K1 to K11 on each axis and on all three, drawn and listed, the cells along the axis and the list shown."""
+    for axes, (name, points, n, _, refusal) in product(("x", "y", "z", "xyz"), K1_TO_K11):
+        record = curve([g if axis in axes else 0 for g in points for axis in "xyz"], n, MARK)
+        count = None if refusal else 1 + (PATHS_OF_K[name] - 1) * len(axes)
+        cases.fill(512)
+        assert cases.call("T", 8, record)[:2] == (refusal, count)
+        cases.show(0, sum(8 ** "xyz".index(axis) for axis in axes))
+        assert list_a_path(cases, 8, record)[:2] == (refusal, count)
+        cases.show()
+        if count and count > 5:
+            cases.show(16)
+
+
+def path_steps(cases):
+    """From the middle cell to each one beside it, in one step and in more, and twice as far; grids and lists shown."""
+    for k, towards in enumerate(product((-1, 0, 1), repeat=3)):
+        moves = sum(c != 0 for c in towards)
+        record = from_cell_to_cell((1, 1, 1), [1 + c for c in towards], 1, MARK, CHOICES[k % 2])
+        cases.fill(27)
+        assert cases.call("T", 3, record).count == 1 + moves
+        cases.show(0)
+        cases.show(16)
+        assert list_a_path(cases, 3, record).count == 1 + moves
+        cases.show()
+        in_more_steps = record._replace(counts=((2, 3, 4, 7, 512)[k % 5],))
+        cases.fill(27, 0, 128)
+        assert cases.call("T", 3, in_more_steps).count == list_a_path(cases, 3, in_more_steps).count == 1 + moves
+        cases.show()
+        further = from_cell_to_cell((2, 2, 2), [2 + 2 * c for c in towards], 6 + k % 2, MARK)
+        cases.fill(125, 0, 64)
+        assert cases.call("T", 5, further).count == list_a_path(cases, 5, further).count == 1 + 2 * moves
+    for here, there in permutations(product((0, 1), repeat=3), 2):
+        record = from_cell_to_cell(here, there, 1, 255)
+        cases.fill(8)
+        assert cases.call("T", 2, record).count == 1 + sum(a != b for a, b in zip(here, there))
+        cases.call("U", 2, record, 3 * len(path(record)))
+
+
+def path_corners(cases):
+    """From corner to opposite corner of larger cubes, with steps to spare and without, and past them by one."""
+    for k, here in enumerate(product((0, 1), repeat=3)):
+        for side in 8, 64:
+            one, other = ([c * (side - 1) for c in corner] for corner in (here, [1 - c for c in here]))
+            for n in 3 * (side - 1), 512, side:
+                record = from_cell_to_cell(one, other, n, MARK, CHOICES[k % 2])
+                if side == 8 or k % 2 == 0 and n == 512:
+                    cases.fill(side**3, 0, 64)
+                    assert cases.call("T", side, record).count == (None if n == side else 3 * side - 2)
+                assert list_a_path(cases, side, record).count == (None if n == side else 3 * side - 2)
+            assert list_a_path(cases, side - 1, record._replace(counts=(512,))).refusal == 14
+    for zigzag in (0, 63, 0, 63), (63, 0, 63, 0), (0, 63, 63, 0), (63, 0, 0, 63):
+        for axes in "x", "yz", "xyz":
+            record = curve([g if axis in axes else 63 for g in zigzag for axis in "xyz"], 512, MARK)
+            list_a_path(cases, 64, record)
+            cases.show(3 * len(path(record)) - 14)
+            if axes == "xyz":
+                cases.fill(BUFFER)
+                cases.call("T", 64, record)
+
+
+def path_lists(cases):
+    """Lists of three times the answer, a byte more and less, and of what samples and the longest path would take."""
+    for side, points, n in (
+        (2, from_cell_to_cell((0, 0, 0), (1, 1, 1)).coordinates, 1),
+        (2, from_cell_to_cell((1, 0, 1), (0, 0, 0)).coordinates, 2),
+        (4, [c for g in range(4) for c in (g, g, 3 - g)], 3),
+        (4, [c for g in range(4) for c in (g, g, 3 - g)], 4),
+        (8, on_axis(1, (0, 3, 3, 0)), 9),
+        (8, (0, 7, 1, 7, 0, 7, 3, 3, 3, 6, 5, 0), 27),
+        (6, [5] * 12, 1),
+        (6, [5, 0, 5] * 4, 512),
+        (64, (0, 0, 63, 63, 63, 0, 0, 63, 63, 63, 0, 0), 200),
+    ):
+        record = curve(points, n, 0)
+        exact = 3 * len(path(record))
+        lengths = {0, 1, 2, 3, exact - 3, exact - 2, exact - 1, exact, exact + 1, exact + 3, 3 * n + 2, 3 * n + 3}
+        for length in sorted(lengths | {9 * n + 2, 9 * n + 3, 9 * n + 4}):
+            answer = list_a_path(cases, side, record, length)
+            assert answer.refusal == (22 if length < exact else None)
+            if exact - 4 < length < exact + 4:
+                cases.show(max(0, length - 14))
+
+
+PATH_FAULTS = {**FAULTS, 22: ({"length": 11}, {"length": 0}), 15: ({"x": 2}, {"x": 7})}
+
+
+def stepping_curve(call):
+    """A curve from cell 0 to the cell that all coordinates have moved to, x and z as given."""
+    return from_cell_to_cell((0, 0, 0), (call["x"] or 1, 1, call["z"] or 1), call["n"], call["mark"], call["choice"])
+
+
+def path_refusals(cases):
+    """Each call with up to three of its faults and with all; 22 beside each other number, with lists of many lengths."""
+    refusals(cases, {"T": PATH_ORDERS["drawing"], "U": PATH_ORDERS["listing"]}, PATH_FAULTS, stepping_curve)
+    for number, side, points, n in (
+        (11, 65, [1, 0, 0] * 2 + [0, 1, 1] * 2, 1),
+        (11, 1, [0] * 12, 0),
+        (13, 8, [1, 0, 0] * 2 + [0, 1, 1] * 2, 513),
+        (13, 8, [0] * 12, 0),
+        (13, 8, [1, 0, 0] * 2 + [0, 1, 1] * 2, LARGEST),
+        (14, 8, [8, 0, 0] * 2 + [7, 1, 1] * 2, 1),
+        (14, 8, [255, 0, 0] * 2 + [7, 1, 1] * 2, 4),
+        (15, 8, [0, 0, 0] * 2 + [2, 1, 1] * 2, 1),
+        (15, 8, on_axis(0, (0, 0, 0, 6)), 16),
+        (15, 8, on_axis(2, (0, 1, 2, 3)), 2),
+        (15, 8, on_axis(1, (0, 3, 3, 0)), 7),
+        (15, 64, [c for g in (0, 21, 42, 63) for c in (g, 63 - g, g)], 62),
+    ):
+        cases.fill(4611, 17, 3)
+        for length in 0, 1, 2, 3, 3 * min(n, 512) + 2, 3 * min(n, 512) + 3, 9 * min(n, 512) + 3:
+            assert cases.call("U", side, curve(points, n, MARK), length).refusal == number
+
+
+def path_limits(cases):
+    """The ends of the ranges of side, step count and mark, and grids of other lengths."""
+    for side in 0, 1, 2, 3, 63, 64, 65, LARGEST:
+        low, high = min(max(side - 2, 0), 254), min(max(side - 1, 0), 255)
+        record = from_cell_to_cell([low] * 3, [high] * 3, 1, MARK)
+        cases.fill(min(side**3, BUFFER), 5)
+        assert cases.call("T", side, record, min(side**3, BUFFER)).count == (4 if 2 <= side <= 64 else None)
+        cases.show(min(side**3, BUFFER) - 16 if side > 2 else 0)
+        list_a_path(cases, side, record, 12)
+    for n in 0, 1, 2, 511, 512, 513, LARGEST:
+        record = from_cell_to_cell((0, 1, 0), (1, 0, 1), n, MARK)
+        cases.fill(8, 0, 64)
+        assert cases.call("T", 2, record).count == list_a_path(cases, 2, record, 12).count == (4 if 1 <= n <= 512 else None)
+    for side in 2, 3, 8, 20:
+        cases.fill(9261, 3, 7)
+        for length in 0, 1, side**2, (side - 1) ** 3, side**3 - 1, side**3, side**3 + 1, (side + 1) ** 3:
+            record = from_cell_to_cell((0, 0, 0), (1, 1, 1), 1, MARK)
+            assert cases.call("T", side, record, length).refusal == (None if length == side**3 else 21)
+    cases.fill(27)
+    for k, c in product(range(12), (2, 3)):
+        record = curve([c if k == position else 0 for position in range(12)], 6, 1 + k, CHOICES[k % 2])
+        assert cases.call("T", 3, record).refusal == (14 if c == 3 else None)
+    for mark, choice in product((0, 1, 255), CHOICES):
+        record = from_cell_to_cell((1, 1, 1), (0, 0, 0), 1, mark, choice)
+        cases.fill(8, 255, 255)
+        assert cases.call("T", 2, record).refusal == (None if mark else 12)
+        cases.show()
+        assert list_a_path(cases, 2, record).refusal is None
+
+
+def path_in_turn(cases, side, *drawings):
+    """Drawings of curves and of paths, each with the number of its new cells, and bytes of the grid shown."""
+    for letter, record, new in drawings:
+        answer = cases.call(letter, side, record)
+        assert (answer.refusal, answer.new) == (None, new), (record, answer[:3])
+        cases.show()
+
+
+def path_over_and_under(cases):
+    """A path over and under itself, its curve, the path from the other end, and bytes that are 0, smaller and larger.
+
+    Some come back to cells of their own.
+    """
+    across = [0, 0, 0, 1, 1, 1, 2, 2, 2, 3, 3, 3]
+    for first, second in product(CHOICES, repeat=2):
+        record, other = curve(across, 3, 9, first), curve(across, 3, 255, second)
+        cases.fill(64)
+        path_in_turn(cases, 4, ("T", record, 10), ("T", other, 0), ("D", other, 0), ("T", record, 0))
+        cases.fill(64)
+        path_in_turn(cases, 4, ("D", record, 4), ("T", other, 6), ("D", record, 0), ("T", flip(record), 6))
+        cases.fill(64)
+        path_in_turn(cases, 4, ("T", record, 10), ("T", flip(other), 6), ("T", record, 0))
+    for (first, step), choice in product(((130, 0), (200, 0), (0, 128), (128, 128), (0, 65), (253, 1), (64, 64)), CHOICES):
+        record = curve(across, 3, 130, choice)
+        cases.fill(64, first, step)
+        held = bytes(cases.buffer[:64])
+        path_in_turn(cases, 4, ("T", record, sum(held[at] == 0 for at in places(4, record, path_cells))))
+        loop = LOOP._replace(mark=130, choice=choice)
+        cases.fill(512, first, step)
+        held = bytes(cases.buffer[:512])
+        path_in_turn(cases, 8, ("T", loop, sum(held[at] == 0 for at in places(8, loop, path_cells))))
+    for axes, choice in product(("x", "y", "z", "xy", "yz", "xyz"), CHOICES):
+        record = curve([g if axis in axes else 1 for g in (0, 3, 3, 0) for axis in "xyz"], 9, MARK, choice)
+        cases.fill(64)
+        assert cases.call("T", 4, record).new == len({*path_cells(record).values()}) < len(path(record))
+
+
+def random_path_call(cases, dice, letter, side):
+    """A call with the path of a random curve, in about every seventh case with a fault; a list of one of many lengths."""
+    points, n, mark = random_curve(dice, side)
+    fault = dice.randrange(42)
+    called = dice.choice((0, 1, 65, 256, LARGEST, side + 1, side - 1)) if fault == 0 else side
+    if fault == 1:
+        points[dice.randrange(12)] = dice.choice((side, side + 1, 255, dice.randrange(side, 256)))
+    if fault == 2:
+        n = dice.choice((0, 513, 1 << 16, LARGEST))
+    if fault == 3:
+        mark = 0
+    if fault == 4:
+        n = max(1, n // 3)
+    record = curve(points, n, mark, dice.choice(CHOICES))
+    if letter == "T":
+        length = side**3 - (fault == 5) + (fault == 6)
+    else:
+        exact = 3 * len(path(record)) if 1 <= n <= 513 else 3 * min(n, 512)
+        some = exact, exact + 1, exact + 7, exact - 1, 3 * min(n, 512) + 3, 9 * min(n, 512) + 2, 9 * min(n, 512) + 3
+        length = max(0, dice.choice((exact, exact, *some)))
+    cases.call(letter, called, record, min(length, BUFFER))
+
+
+def random_paths(cases, dice):
+    """At every side, and more at small ones: paths in turn into empty, partly marked and any grids, and listed."""
+    for group in range(63 + 40):
+        side, step = 2 + (group if group < 63 else group % 13), dice.choice((16, 32, 64, 128))
+        fillings = (0, 0), (step * dice.randrange(256), step), (dice.randrange(256), dice.randrange(256))
+        cases.fill(side**3, *fillings[group % 3])
+        for letter in "TTUTUUTU" if side < 20 else "TTUUU":
+            random_path_call(cases, dice, letter, side)
+        cases.show(dice.randrange(side**3))
+
+
+def mixed_with_paths(cases, dice):
+    """Lists of drawings with paths among others, from empty and partly marked cubes: demand 3, and new cells add up."""
+    for side, first, step in (3, 0, 0), (6, 0, 128), (9, 0, 32), (14, 0, 0):
+        cases.fill(side**3, first, step)
+        start, new, calls = bytes(cases.buffer[: side**3]), 0, []
+        for letter in "TDTPTWTT":
+            points, counts, mark, choice = random_record(dice, letter, side)
+            record = (patch if letter in ON_PATCHES else curve)(points, *counts, mark, choice)
+            calls.append((side, {"T": Path, "W": Chosen}.get(letter, lambda record: record)(record)))
+            new += cases.call(letter, side, record).new or 0
+        grids = run(calls, start)
+        assert grids[-1] == cases.buffer[: side**3] and demand_3(calls, grids)
+        assert new == unmarked(start) - unmarked(grids[-1])
+
+
+CALL_OF = {"T": "drawing", "U": "listing"}
+
+
+def paths(cases, dice):
+    """Paths, drawn and listed; enough of each was met."""
+    for part in (
+        path_samples, path_steps, path_corners, path_lists, path_refusals, path_limits, path_over_and_under,
+    ):  # fmt: skip
+        part(cases)
+    random_paths(cases, dice)
+    mixed_with_paths(cases, dice)
+    for letter, call in CALL_OF.items():
+        for number in PATH_ORDERS[call]:
+            assert sum(cases.answered[letter, f"{choice} {number}"] for choice in CHOICES) >= 15, cases.answered
+        for way in WRONG_PATH_WAYS[call]:
+            least = 3 if " before " in way else 20
+            assert cases.paths_told[letter, way] >= least, (letter, way, cases.paths_told[letter, way])
+    assert all(cases.paths_told[way] >= 10 for way in WRONG_WAYS), cases.paths_told
+    assert min(cases.other_end[False], cases.other_end[True]) >= 100, cases.other_end
+
+
+def path_lines(cases):
+    """How many drawings of a path are others from the other end, and to how many calls a wrong way answers otherwise."""
+    yield other_end_line(cases.other_end)
+    for choice, what, way in WRONG_WAYS:
+        wrongly = "new cells counted" if what == "counts" else "drawn"
+        yield f"a path, {choice}, {wrongly} wrongly, {way}: seen by {cases.paths_told[choice, what, way]} drawings"
+    for way in dict.fromkeys(way for ways in WRONG_PATH_WAYS.values() for way in ways):
+        seen = [
+            f"{cases.paths_told[letter, way]} {call}s" for letter, call in CALL_OF.items() if way in WRONG_PATH_WAYS[call]
+        ]
+        yield f"a path taken wrongly, {way}: seen by {' and '.join(seen)}"
+
+
 def no_cases(cases):
     """Records that are no case, of another form or lent more than there is; and bytes shown past the buffer's end."""
     first = cases.records[0][0]
-    longer = [case_record(letter, (2, 1, MARK, BUFFER + 1), NUMBERS) for letter in "FDLPWVX"]
+    longer = [case_record(letter, (2, 1, MARK, BUFFER + 1), NUMBERS) for letter in "FDLPWVXTU"]
     for case in *malformed(first), first[:-1] + " ", *longer:
         cases.records.append((case, answer_record("B", (), "d", ANSWERS)))
     cases.fill(8, 1, 1)
@@ -1185,6 +1483,7 @@ def main():
     quitting(cases, random.Random(5))
     choosing(cases, random.Random(6))
     flips(cases, random.Random(7))
+    paths(cases, random.Random(8))
     no_cases(cases)
     assert all(distance <= 1 for _, distance in cases.distances), cases.distances
     kinds = product(DRAWINGS, CHOICES, ("all", "some", "none"))
@@ -1214,7 +1513,7 @@ def main():
         for way in WRONG_CHOSEN:
             counts, drawings = (cases.chosen_told[way, letter] for letter in CHOOSING)
             print(f"chosen wrongly, {way}: another answer to {counts} counts and to {drawings} drawings")
-        for said in flip_lines(cases):
+        for said in (*flip_lines(cases), *path_lines(cases)):
             print(said)
         print(len(cases.records), "records")
         return 0

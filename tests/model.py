@@ -3,7 +3,7 @@
 Whole numbers and fractions are exact throughout; there are no differences and no remainders here.  Imported, the module
 gives the expected answers of test programs.  Run as `python3 tests/model.py`, it checks itself on the documents' samples
 and exits with 1 if a check fails.  Quoted words are document 01's, for demand 3 also the demand's own, and for cells of
-samples, neighbours, hues, totals, new cells, choices, the test that quits, chosen counts and flips document 02's.
+samples, neighbours, hues, totals, new cells, choices, the test that quits, chosen counts, flips and paths document 02's.
 """
 
 import random
@@ -14,7 +14,7 @@ from collections import Counter
 from fractions import Fraction
 from functools import lru_cache, wraps
 from io import BytesIO
-from itertools import count, product
+from itertools import combinations, count, product
 from math import ceil, floor, prod
 from operator import ge, gt, le, lt
 from typing import NamedTuple, Optional, Tuple
@@ -222,41 +222,49 @@ def unmarked(grid):
     return grid.count(0)
 
 
+def mark_cells(side, record, grid, found):
+    """The grid after a record's mark is written in these cells, in turn.
+
+    Under, it "writes only cells that are unmarked at that moment".
+    """
+    drawn = bytearray(grid)
+    for cell in found:
+        at = place(side, cell)
+        if record.choice == OVER or drawn[at] == 0:
+            drawn[at] = record.mark
+    return bytes(drawn)
+
+
 def draw(side, record, grid):
     """Draws a curve or a patch: "writes the mark in every sample's cell, nothing else", answers their number.
 
-    Under, it "writes only cells that are unmarked at that moment".  The count of new cells, which "it turned from
-    unmarked to marked", is "the unmarked cells before minus those after".
+    The count of new cells, which "it turned from unmarked to marked", is "the unmarked cells before minus those after".
     """
     refusal = drawing_refusal(side, record, len(grid))
     if refusal is not None:
         return DrawAnswer(refusal, None, None, bytes(grid))
-    drawn = bytearray(grid)
-    for cell in cells(record).values():
-        at = place(side, cell)
-        if record.choice == OVER or drawn[at] == 0:
-            drawn[at] = record.mark
-    return DrawAnswer(None, prod(n + 1 for n in record.counts), unmarked(grid) - unmarked(drawn), bytes(drawn))
+    drawn = mark_cells(side, record, grid, cells(record).values())
+    return DrawAnswer(None, prod(n + 1 for n in record.counts), unmarked(grid) - unmarked(drawn), drawn)
 
 
-def places(side, record):
-    """The places of the samples' cells."""
-    return {place(side, cell) for cell in cells(record).values()}
+def places(side, record, cells_of=cells):
+    """The places of the samples' cells, or of those that `cells_of` gives."""
+    return {place(side, cell) for cell in cells_of(record).values()}
 
 
-def new_places(side, record, grid):
+def new_places(side, record, grid, cells_of=cells):
     """The places of the cells that a drawing turns from unmarked to marked: a second way to its count."""
-    return {at for at in places(side, record) if grid[at] == 0}
+    return {at for at in places(side, record, cells_of) if grid[at] == 0}
 
 
 def held_after(record, byte):
-    """What one of the samples' cells holds after a drawing: the mark or, under, the mark that it held."""
+    """What one of a drawing's cells holds after it: the mark or, under, the mark that it held."""
     return byte if record.choice == UNDER and byte != 0 else record.mark
 
 
-def left_as_drawn(side, record, before, after):
+def left_as_drawn(side, record, before, after, cells_of=cells):
     """Whether a drawing leaves this grid, said of each cell instead of each sample: a second way to its bytes."""
-    drawn = places(side, record)
+    drawn = places(side, record, cells_of)
     others = bytearray(after)
     for at in drawn:
         others[at] = before[at]
@@ -386,6 +394,69 @@ def draw_chosen(side, record, grid):
     answer = draw(side, with_chosen_count(record), grid)
     assert answer.refusal is None, record
     return answer
+
+
+# Face-to-face curves (document 02, A.8)
+
+
+class PathCell(NamedTuple):
+    """A cell of a path, and the sample whose cell it is or, where the cell is inserted, the sample before it."""
+
+    cell: Tuple[int, ...]
+    sample: int
+    inserted: bool
+
+
+def moves(here, there):
+    """Between two cells: "the coordinate x moves first, then y, then z, one cell written after each move"."""
+    after = [there[: axis + 1] + here[axis + 1 :] for axis in range(3)]
+    return [cell for axis, cell in enumerate(after) if here[axis] != there[axis]]
+
+
+@of_points_and_counts
+def path(record):
+    """The path of a curve, from cell to cell "of the present walk"; "a sample whose cell is unchanged adds none"."""
+    walk = row(cells(record))
+    found = [PathCell(walk[0], 0, False)]
+    for i, (here, there) in enumerate(zip(walk, walk[1:])):
+        between = moves(here, there)
+        found += [PathCell(cell, i, True) for cell in between[:-1]]
+        found += [PathCell(cell, i + 1, False) for cell in between[-1:]]
+    return found
+
+
+def path_cells(record):
+    """The cells of a path, by their numbers (k,)."""
+    return {(k,): each.cell for k, each in enumerate(path(record))}
+
+
+def draw_path(side, record, grid):
+    """Draws a path, by a drawing's order; "the answer is the number of cells"."""
+    refusal = drawing_refusal(side, record, len(grid))
+    if refusal is not None:
+        return DrawAnswer(refusal, None, None, bytes(grid))
+    drawn = mark_cells(side, record, grid, path_cells(record).values())
+    return DrawAnswer(None, len(path(record)), unmarked(grid) - unmarked(drawn), drawn)
+
+
+def path_listing_refusal(side, record, list_length):
+    """The order of a listing, where 22 "means a list shorter than three times the answer, and comes after 15"."""
+    return first_refusal(
+        (11, lambda: not 2 <= side <= 64),
+        (13, lambda: count_out_of_range(record)),
+        (14, lambda: max(record.coordinates) >= side),
+        (15, lambda: steps_too_long(record)),
+        (22, lambda: list_length < 3 * len(path(record))),
+    )
+
+
+def list_path(side, record, lent):
+    """Lists a path: x y z of each of its cells in turn; mark and choice are ignored."""
+    refusal = path_listing_refusal(side, record, len(lent))
+    if refusal is not None:
+        return Answer(refusal, None, bytes(lent))
+    listed = bytes(coordinate for cell in path_cells(record).values() for coordinate in cell)
+    return Answer(None, len(path(record)), listed + bytes(lent[len(listed) :]))
 
 
 # Swatches: an f32 is its 32-bit pattern
@@ -694,8 +765,16 @@ class Chosen(NamedTuple):
     record: Record
 
 
+class Path(NamedTuple):
+    """In a list of calls, in place of a record: the drawing of this curve's path."""
+
+    record: Record
+
+
 def drawn_by(side, called, grid):
     """What a call of the list answers."""
+    if isinstance(called, Path):
+        return draw_path(side, called.record, grid)
     return draw_chosen(side, called.record, grid) if isinstance(called, Chosen) else draw(side, called, grid)
 
 
@@ -707,7 +786,8 @@ def accepted_object(side, called, grid_length):
     if isinstance(called, Chosen):
         accepted = chosen_refusal(side, called.record, grid_length) is None
         return with_chosen_count(called.record) if accepted else None
-    return called if drawing_refusal(side, called, grid_length) is None else None
+    record = called.record if isinstance(called, Path) else called
+    return record if drawing_refusal(side, record, grid_length) is None else None
 
 
 def run(calls, grid):
@@ -758,6 +838,12 @@ def distances_line(distances):
     return f"neighbours in accepted patches: {along['t']} along t, {along['u']} along u, {apart} more than one apart"
 
 
+def other_end_line(found):
+    """In print: how many drawings of a path leave another grid than that of the flip, from the same bytes."""
+    drawings = found[False] + found[True]
+    return f"accepted drawings of a path: {drawings}, of which {found[False]} leave another grid from the other end"
+
+
 def near_coordinates(exact):
     """The one or two coordinates within half a cell of a value."""
     below = exact[0] // exact[1]
@@ -771,31 +857,80 @@ def places_near_samples(side, record):
     }
 
 
-def marks_explained(calls, start, end):
-    """Whether each cell holds its start byte or the mark of an accepted object with a sample within half of it."""
+def within_one_and_a_half(exact, coordinate):
+    """Whether an exact value and a cell's coordinate differ by at most one and a half."""
+    numerator, denominator = exact
+    return 2 * abs(numerator - denominator * coordinate) <= 3 * denominator
+
+
+def is_near(record, each):
+    """Whether a cell of a path lies where document 02 says it.
+
+    "Cells of samples remain within half a cell; an inserted cell is within one and a half on each axis of the sample
+    before it."
+    """
+    near = within_one_and_a_half if each.inserted else within_half
+    return all(map(near, samples(record)[each.sample,], each.cell))
+
+
+def share_a_face(here, there):
+    """Whether two cells differ on one axis alone, by one."""
+    return sorted(abs(a - b) for a, b in zip(here, there, strict=True)) == [0, 0, 1]
+
+
+def face_to_face(found):
+    """Whether "neighbouring cells share a face" all along a path."""
+    return all(share_a_face(here.cell, there.cell) for here, there in zip(found, found[1:]))
+
+
+def path_marked(side, record, found, before, after):
+    """Whether all cells of a path, and those of all samples, hold the mark or, under, are marked (`cells_marked`)."""
+    found_at = {place(side, each.cell) for each in found} | places(side, record)
+    return all(after[at] == held_after(record, before[at]) != 0 for at in found_at)
+
+
+def places_explained(side, called, record, path_of):
+    """The places of all cells that an accepted object of the list may have marked.
+
+    Of a path they are its own cells, where they are as near as document 02 says; of others all that have a sample
+    within half.
+    """
+    if isinstance(called, Path):
+        return {place(side, each.cell) for each in path_of(record) if is_near(record, each)}
+    return places_near_samples(side, record)
+
+
+def marks_explained(calls, start, end, path_of):
+    """Whether each cell holds its start byte or the mark of an accepted object that has it from `places_explained`."""
     explained = {
         (at, record.mark)
         for side, called in calls
         for record in [accepted_object(side, called, len(start))]
         if record is not None
-        for at in places_near_samples(side, record)
+        for at in places_explained(side, called, record, path_of)
     }
     return all(old == new or (at, new) in explained for at, (old, new) in enumerate(zip(start, end, strict=True)))
 
 
-def demand_3(calls, grids, cells_of=cells):
-    """All of demand 3 for these calls and grids (`run` gives the model's own), by the cells of `cells_of`."""
+def drawn_as_demanded(side, called, record, before, after, cells_of, path_of):
+    """Whether an accepted object of the list is drawn so; "the accuracy rule reads so for these curves only", paths."""
+    found = cells_of(record)
+    if not samples_within_half(record, found):
+        return False
+    if isinstance(called, Path):
+        along = path_of(record)
+        near = all(is_near(record, each) for each in along)
+        return near and path_marked(side, record, along, before, after) and face_to_face(along)
+    return cells_marked(side, record, found, before, after) and neighbours_adjacent(record, found)
+
+
+def demand_3(calls, grids, cells_of=cells, path_of=path):
+    """All of demand 3 for these calls and grids (`run` gives the model's own), by these cells and paths."""
     for (side, called), before, after in zip(calls, grids[:-1], grids[1:], strict=True):
         record = accepted_object(side, called, len(before))
-        if record is not None:
-            found = cells_of(record)
-            if not (
-                samples_within_half(record, found)
-                and cells_marked(side, record, found, before, after)
-                and neighbours_adjacent(record, found)
-            ):
-                return False
-    return marks_explained(calls, grids[0], grids[-1])
+        if record is not None and not drawn_as_demanded(side, called, record, before, after, cells_of, path_of):
+            return False
+    return marks_explained(calls, grids[0], grids[-1], path_of)
 
 
 # The self-check
@@ -808,6 +943,7 @@ class Checks:
         self.groups = {}
         self.failed = 0
         self.distances = Counter()  # of the cells of neighbours in accepted patches
+        self.other_end = Counter()  # the accepted drawings of a path, by whether one from the other end leaves the same
 
     def equal(self, group, label, found, expected):
         """One check: found and expected agree."""
@@ -826,6 +962,14 @@ class Checks:
             self.equal(group, f"neighbours of {record}", max(distance for _, distance in found) <= 1, True)
         return answer
 
+    def draw_path(self, group, side, record, grid):
+        """A drawing of a path, held to the laws of its choice and, if accepted, of its cells."""
+        answer = draw_path(side, record, grid)
+        broken = broken_laws(side, record, grid, answer, draw_path, path_cells)
+        broken += broken_path_laws(side, record) if answer.refusal is None else []
+        self.equal(group, f"laws of {record}", broken, [])
+        return answer
+
     def sheet(self, group, label, text, buffer):
         """A sheet call; if accepted, the sum of its new cells is the number of its marked cells."""
         answer = draw_sheet(text, buffer)
@@ -834,10 +978,11 @@ class Checks:
         return answer
 
     def close(self):
-        """Prints a line for each group, the neighbours compared and the closing count; the exit status."""
+        """Prints a line for each group, the neighbours compared, the paths turned and the closing count; the exit status."""
         for group, count in self.groups.items():
             print(f"{group}: {count} checks")
         print(distances_line(self.distances))
+        print(other_end_line(self.other_end))
         print(f"{sum(self.groups.values())} checks, {self.failed} failed")
         return 1 if self.failed else 0
 
@@ -899,12 +1044,12 @@ def cells_with_halves_up(record):
     return cells_with_halves(record, lambda exact: floor(exact + Fraction(1, 2)))
 
 
-def row_by_row(record):
+def row_by_row(record, cells_of=cells):
     """The indices of all samples, along t in each row in turn."""
-    return sorted(cells(record), key=lambda indices: indices[::-1])
+    return sorted(cells_of(record), key=lambda indices: indices[::-1])
 
 
-def sample_by_sample(side, record, grid, order, is_new=None, writes=None):
+def sample_by_sample(side, record, grid, order, is_new=None, writes=None, cells_of=cells):
     """New cells, counted as they are written, and the grid after a drawing that meets its samples in some order.
 
     A rule for new cells goes by the byte before the drawing, the byte when sample i of its row is met, the mark and i; a
@@ -912,7 +1057,7 @@ def sample_by_sample(side, record, grid, order, is_new=None, writes=None):
     """
     is_new = is_new or (lambda before, byte, mark, i: byte == 0)
     writes = writes or (lambda byte, mark: record.choice == OVER or byte == 0)
-    found, held, new = cells(record), bytearray(grid), 0
+    found, held, new = cells_of(record), bytearray(grid), 0
     for indices in order:
         at = place(side, found[indices])
         new += is_new(grid[at], held[at], record.mark, indices[0])
@@ -938,16 +1083,22 @@ WRONG_DRAWINGS = {  # by choice, where a program may write the mark
 }
 
 
-def wrong_counts(side, record, grid):
+def wrong_counts(side, record, grid, cells_of=cells):
     """The number that each wrong way to count gives for a drawing."""
-    order = row_by_row(record)
-    return {way: sample_by_sample(side, record, grid, order, is_new)[0] for way, is_new in WRONG_COUNTS.items()}
+    order = row_by_row(record, cells_of)
+    return {
+        way: sample_by_sample(side, record, grid, order, is_new, cells_of=cells_of)[0]
+        for way, is_new in WRONG_COUNTS.items()
+    }
 
 
-def wrong_grids(side, record, grid):
+def wrong_grids(side, record, grid, cells_of=cells):
     """The grid that each wrong way to draw a record of its choice leaves."""
-    order, ways = row_by_row(record), WRONG_DRAWINGS[record.choice]
-    return {way: sample_by_sample(side, record, grid, order, writes=writes)[1] for way, writes in ways.items()}
+    order, ways = row_by_row(record, cells_of), WRONG_DRAWINGS[record.choice]
+    return {
+        way: sample_by_sample(side, record, grid, order, writes=writes, cells_of=cells_of)[1]
+        for way, writes in ways.items()
+    }
 
 
 WRONG_WAYS = [
@@ -957,9 +1108,9 @@ WRONG_WAYS = [
 ]
 
 
-def told_apart(side, record, grid, answer):
+def told_apart(side, record, grid, answer, cells_of=cells):
     """The wrong ways, as (choice, what, way), that give another number or grid than an accepted drawing."""
-    numbers, grids = wrong_counts(side, record, grid), wrong_grids(side, record, grid)
+    numbers, grids = wrong_counts(side, record, grid, cells_of), wrong_grids(side, record, grid, cells_of)
     yield from ((record.choice, "counts", way) for way, new in numbers.items() if new != answer.new)
     yield from ((record.choice, "draws", way) for way, left in grids.items() if left != answer.lent)
 
@@ -1205,24 +1356,199 @@ def broken_chosen_laws(side, record, grid, answer):
     return [law for law, holds in laws.items() if not holds]
 
 
-def broken_laws(side, record, grid, answer):
+def broken_laws(side, record, grid, answer, drawing=draw, cells_of=cells):
     """What does not hold of a drawing's answer, each said another way than the drawing itself."""
-    other = draw(side, with_other_choice(record), grid)
+    other = drawing(side, with_other_choice(record), grid)
     if answer.refusal is not None:
         laws = {"a refusal ignores the choice": other == answer, "a refused call leaves the grid": answer.lent == grid}
     else:
-        order = row_by_row(record)
+        order = row_by_row(record, cells_of)
         shuffled = random.Random(answer.count).sample(order, len(order))
         laws = {
-            "the bytes of its cells, and no others": left_as_drawn(side, record, grid, answer.lent),
-            "new cells are the places that were unmarked": answer.new == len(new_places(side, record, grid)),
+            "the bytes of its cells, and no others": left_as_drawn(side, record, grid, answer.lent, cells_of),
+            "new cells are the places that were unmarked": answer.new == len(new_places(side, record, grid, cells_of)),
             "any order of the samples": all(
-                sample_by_sample(side, record, grid, turn) == (answer.new, answer.lent)
+                sample_by_sample(side, record, grid, turn, cells_of=cells_of) == (answer.new, answer.lent)
                 for turn in (order, order[::-1], shuffled)
             ),
-            "as many samples and new cells by the other choice": other[:3] == answer[:3],
+            "the same count and as many new cells by the other choice": other[:3] == answer[:3],
         }
     return [law for law, holds in laws.items() if not holds]
+
+
+def between_samples(record, each):
+    """Whether an inserted cell has the next sample's coordinates up to some axis, and from there on the sample's before."""
+    here, there = cells(record)[each.sample,], cells(record)[each.sample + 1,]
+    return each.cell in (there[:1] + here[1:], there[:2] + here[2:]) and each.cell not in (here, there)
+
+
+def broken_path_laws(side, record):
+    """What does not hold of the path of an accepted curve, each said another way than the path itself."""
+    (n,) = record.counts
+    found, walk = path(record), row(cells(record))
+    of_samples = [each.cell for each in found if not each.inserted]
+    apart = [
+        max(abs(Fraction(*exact) - c) for exact, c in zip(samples(record)[each.sample,], each.cell, strict=True))
+        for each in found
+    ]
+    steps = sum(abs(a - b) for here, there in zip(walk, walk[1:]) for a, b in zip(here, there, strict=True))
+    listed = list_path(side, record, bytes(3 * len(found)))
+    laws = {
+        "neighbouring cells share a face": face_to_face(found),
+        "1 plus the sum over all steps of the axis moves": len(found) == 1 + steps,
+        "at most 3 × n + 1": len(found) <= 3 * n + 1,
+        "every sample's cell, in turn, where it changes": of_samples
+        == [cell for i, cell in enumerate(walk) if i == 0 or walk[i - 1] != cell],
+        "x before y before z": all(between_samples(record, each) for each in found if each.inserted),
+        "cells of samples within half": all(d <= Fraction(1, 2) for d, each in zip(apart, found) if not each.inserted),
+        "inserted ones within one and a half": all(d <= Fraction(3, 2) for d in apart),
+        "inside the cube": all(0 <= c < side for each in found for c in each.cell),
+        "the cells that are listed": listed.lent == bytes(c for each in found for c in each.cell),
+        "from the other end as many cells": len(path(flip(record))) == len(found),
+    }
+    return [law for law, holds in laws.items() if not holds]
+
+
+def moves_by(*groups):
+    """From cell to cell otherwise: the axes of a group move at once, one group after the other, each with one cell."""
+    axes = [["xyz".index(axis) for axis in group] for group in groups]
+
+    def between(here, there):
+        at, found = list(here), []
+        for group in axes:
+            if any(here[axis] != there[axis] for axis in group):
+                for axis in group:
+                    at[axis] = there[axis]
+                found.append(tuple(at))
+        return found
+
+    return between
+
+
+def moves_with(*after):
+    """From cell to cell otherwise: a cell for each axis that moves, with the next cell's coordinates on these axes."""
+    return lambda here, there: [
+        tuple(there[a] if "xyz"[a] in axes else here[a] for a in range(3))
+        for axis, axes in enumerate(after)
+        if here[axis] != there[axis]
+    ]
+
+
+def along_path(walk, between=moves):
+    """The cells from cell to cell of a walk."""
+    return walk[:1] + [cell for here, there in zip(walk, walk[1:]) for cell in between(here, there)]
+
+
+WRONG_MOVES = {  # from one cell to the next
+    "x, z, y": moves_by("x", "z", "y"),
+    "y, x, z": moves_by("y", "x", "z"),
+    "y, z, x": moves_by("y", "z", "x"),
+    "z, x, y": moves_by("z", "x", "y"),
+    "z, y, x": moves_by("z", "y", "x"),
+    "x and y in one move": moves_by("xy", "z"),
+    "y and z in one move": moves_by("x", "yz"),
+    "x and z in one move": moves_by("xz", "y"),
+    "a diagonal step": moves_by("xyz"),
+    "each move from the cell before": moves_with("x", "y", "z"),
+    "after y's move the y before it": moves_with("x", "x", "xyz"),
+    "after y's move the x before it": moves_with("x", "y", "xyz"),
+    "after z's move the y before it": moves_with("x", "xy", "xz"),
+    "the last move of a step left out": lambda here, there: moves(here, there)[:-1],
+    "a cell for a sample that stays": lambda here, there: moves(here, there) or [there],
+    "only samples' cells": lambda here, there: [there],
+}
+WRONG_PATHS = {  # by the samples' cells, which cells a program may take for the path
+    **{way: lambda walk, between=between: along_path(walk, between) for way, between in WRONG_MOVES.items()},
+    "the last sample's moves left out": lambda walk: along_path(walk[:-1]),
+    "the first cell left out": lambda walk: along_path(walk)[1:],
+    "from the other end": lambda walk: along_path(walk[::-1])[::-1],
+}
+WRONG_LENGTHS = {  # what a program may answer
+    "counted without the 1": lambda record: len(path(record)) - 1,
+    "counted by samples": lambda record: record.counts[0] + 1,
+    "counted by the longest path": lambda record: 3 * record.counts[0] + 1,
+    "counted by steps that move": lambda record: len(along_path(row(cells(record)), moves_by("xyz"))),
+    "counted by different cells": lambda record: len({each.cell for each in path(record)}),
+}
+PATH_ORDERS = {"drawing": (11, 21, 12, 13, 14, 15), "listing": (11, 13, 14, 15, 22)}
+
+
+def order_exchanged(order, earlier, later):
+    """An order with one number moved before an earlier one."""
+    rest = [number for number in order if number != later]
+    at = rest.index(earlier)
+    return (*rest[:at], later, *rest[at:])
+
+
+WRONG_PATH_ORDERS = {
+    call: {f"{b} before {a}": order_exchanged(order, a, b) for a, b in combinations(order, 2)}
+    for call, order in PATH_ORDERS.items()
+}
+WRONG_ROOMS = {  # how long a list a program may ask for
+    "22 by 3 × (n + 1)": lambda record: 3 * (record.counts[0] + 1),
+    "22 by 3 × (3 × n + 1)": lambda record: 3 * (3 * record.counts[0] + 1),
+    "22 by the cells but one": lambda record: 3 * (len(path(record)) - 1),
+    "22 one byte too late": lambda record: 3 * len(path(record)) - 1,
+    "22 one byte too early": lambda record: 3 * len(path(record)) + 1,
+}
+WRONG_LISTS = ["a short list partly written", "22 by 3 × (n + 1) before 14"]
+WRONG_PATH_WAYS = {
+    "drawing": [*WRONG_PATHS, *WRONG_LENGTHS, *WRONG_PATH_ORDERS["drawing"]],
+    "listing": [*WRONG_PATHS, *WRONG_LENGTHS, *WRONG_PATH_ORDERS["listing"], *WRONG_ROOMS, *WRONG_LISTS],
+}
+
+
+def path_refusal(side, record, length, order):
+    """The refusal of a call with a path by some order; the cells of a count that 13 refuses are one at least."""
+    (n,) = record.counts
+    walked = 1 <= n <= 513
+    return first_refusal(*((number, {
+        11: lambda: not 2 <= side <= 64,
+        21: lambda: length != side**3,
+        12: lambda: record.mark == 0,
+        13: lambda: not 1 <= n <= 512,
+        14: lambda: max(record.coordinates) >= side,
+        15: lambda: walked and steps_too_long(record),
+        22: lambda: length < 3 * (len(path(record)) if walked else 1),
+    }[number]) for number in order))  # fmt: skip
+
+
+def wrong_path_drawings(side, record, grid, answer):
+    """The wrong ways that answer otherwise than a drawing of a path, or leave another grid."""
+    for way, order in WRONG_PATH_ORDERS["drawing"].items():
+        if path_refusal(side, record, len(grid), order) != answer.refusal:
+            yield way
+    if answer.refusal is None:
+        yield from (way for way, length in WRONG_LENGTHS.items() if length(record) != answer.count)
+        for way, wrong in WRONG_PATHS.items():
+            found = wrong(row(cells(record)))
+            drawn = mark_cells(side, record, grid, found)
+            if (len(found), unmarked(grid) - unmarked(drawn), drawn) != answer[1:]:
+                yield way
+
+
+def wrong_path_listings(side, record, lent, answer):
+    """The wrong ways that answer otherwise than a listing of a path, or leave another list."""
+    for way, order in WRONG_PATH_ORDERS["listing"].items():
+        if path_refusal(side, record, len(lent), order) != answer.refusal:
+            yield way
+    if listing_refusal(side, record, len(lent)) != answer.refusal:
+        yield "22 by 3 × (n + 1) before 14"
+    if answer.refusal in (None, 22):
+        for way, room in WRONG_ROOMS.items():
+            if (len(lent) < room(record)) != (answer.refusal == 22):
+                yield way
+    if answer.refusal == 22:
+        listed = bytes(c for cell in path_cells(record).values() for c in cell)[: len(lent)]
+        if listed + lent[len(listed) :] != lent:
+            yield "a short list partly written"
+    if answer.refusal is None:
+        yield from (way for way, length in WRONG_LENGTHS.items() if length(record) != answer.count)
+        for way, wrong in WRONG_PATHS.items():
+            found = wrong(row(cells(record)))
+            listed = bytes(c for cell in found for c in cell)
+            if len(found) != answer.count or listed + lent[len(listed) :] != answer.lent:
+                yield way
 
 
 def in_reverse(listing):
@@ -2158,6 +2484,223 @@ def check_flips(checks):
                 checks.equal(group, f"{way} seen by listings: {told}", told[1, way, "listing"] >= 15, True)
 
 
+def from_cell_to_cell(here, there, n=1, mark=9, choice=OVER):
+    """A curve from one cell to another, which it leaves and comes to without speed."""
+    return curve([*here, *here, *there, *there], n, mark, choice)
+
+
+PATHS_OF_K = {"K1": 4, "K3": 4, "K4": 4, "K5": 2, "K7": 7, "K9": 5, "K10, n = 8": 5, "K11": 1}  # on one axis
+
+
+def check_path_samples(checks):
+    """Paths by name: from a cell to each one beside it, K1 to K11, and the order of refusals."""
+    group = "paths"
+    for there, expected in (
+        ((2, 1, 1), [(1, 1, 1), (2, 1, 1)]),
+        ((1, 0, 1), [(1, 1, 1), (1, 0, 1)]),
+        ((1, 1, 2), [(1, 1, 1), (1, 1, 2)]),
+        ((2, 2, 1), [(1, 1, 1), (2, 1, 1), (2, 2, 1)]),
+        ((0, 1, 2), [(1, 1, 1), (0, 1, 1), (0, 1, 2)]),
+        ((1, 0, 0), [(1, 1, 1), (1, 0, 1), (1, 0, 0)]),
+        ((2, 2, 2), [(1, 1, 1), (2, 1, 1), (2, 2, 1), (2, 2, 2)]),
+        ((0, 0, 0), [(1, 1, 1), (0, 1, 1), (0, 0, 1), (0, 0, 0)]),
+        ((0, 2, 0), [(1, 1, 1), (0, 1, 1), (0, 2, 1), (0, 2, 0)]),
+        ((1, 1, 1), [(1, 1, 1)]),
+    ):
+        record = from_cell_to_cell((1, 1, 1), there)
+        checks.equal(group, f"to {there}", [*path_cells(record).values()], expected)
+        for n in 3, 5, 13:  # an odd count has no sample on a half, and all axes move in the same step
+            checks.equal(group, f"to {there}, n = {n}", [*path_cells(record._replace(counts=(n,))).values()], expected)
+    for there in product(range(3), repeat=3):
+        record = from_cell_to_cell((1, 1, 1), there)
+        answer = checks.draw_path(group, 3, record, bytes(27))
+        axes = sum(c != 1 for c in there)
+        checks.equal(group, f"to {there}, answer", answer[:3], (None, 1 + axes, 1 + axes))
+        back = draw_path(3, flip(record), bytes(27)).lent
+        checks.equal(group, f"to {there} and from there", back == answer.lent, axes < 2)
+    held = bytes([77]) * 60
+    for name, points, n, _, refusal in K1_TO_K11:
+        for axes in "x", "y", "z", "xyz":
+            record = curve([g if axis in axes else 0 for g in points for axis in "xyz"], n, 9)
+            drawn, listed = checks.draw_path(group, 8, record, bytes(512)), list_path(8, record, held)
+            answer = None if refusal else 1 + (PATHS_OF_K[name] - 1) * len(axes)
+            checks.equal(group, f"{name}, {axes}, drawing", drawn[:2], (refusal, answer))
+            checks.equal(group, f"{name}, {axes}, listing", listed[:2], (refusal, answer))
+            kept = held if refusal else held[3 * answer :]
+            checks.equal(group, f"{name}, {axes}, the rest of the list", listed.lent[-len(kept) :], kept)
+            if refusal is None and len(axes) == 1:
+                checks.equal(group, f"{name}, {axes}, as the curve's", drawn.lent, draw(8, record, bytes(512)).lent)
+    gap, outside = on_axis(0, (0, 0, 0, 7)), on_axis(0, (0, 0, 0, 8))
+    for side, length, coordinates, n, expected in (
+        (1, 0, outside, 0, 11),
+        (65, 0, outside, 0, 11),
+        (8, 0, outside, 0, 13),
+        (8, 0, outside, 513, 13),
+        (8, 0, outside, 1, 14),
+        (8, 0, gap, 1, 15),
+        (8, 5, [0] * 9 + [1, 0, 0], 1, 22),
+        (8, 6, [0] * 9 + [1, 0, 0], 1, None),
+        (8, 11, [0] * 9 + [1, 1, 1], 1, 22),
+        (8, 12, [0] * 9 + [1, 1, 1], 1, None),
+        (8, 2, [0] * 12, 512, 22),
+        (8, 3, [0] * 12, 512, None),
+    ):
+        record, lent = curve(coordinates, n, 0), bytes(range(50, 50 + length))
+        answer = list_path(side, record, lent)
+        checks.equal(group, f"list {side} {length} {record}", answer.refusal, expected)
+        if expected:
+            checks.equal(group, f"list {side} {length} {record}, kept", answer.lent, lent)
+        for number in (11, 13, 14, 15):
+            if expected == number:
+                told = [*wrong_path_listings(side, record, lent, answer)]
+                checks.equal(group, f"22 before {number}, {record}", f"22 before {number}" in told, True)
+    for order, n, mark, length, coordinates in (
+        (21, 0, 0, 511, outside), (12, 0, 0, 512, outside), (13, 513, 9, 512, outside), (14, 1, 9, 512, outside),
+        (15, 1, 9, 512, gap), (None, 512, 9, 512, gap),
+    ):  # fmt: skip
+        grid = bytes(range(256)) * 2
+        answer = checks.draw_path(group, 8, curve(coordinates, n, mark), grid[:length])
+        checks.equal(group, f"draw, {order}", answer.refusal, order)
+    # x and y of sample 2 are 94/27, those of sample 3 are 5/2, whose cell is 2.
+    steep = curve([c for g in (5, 4, 1, 0) for c in (g, g, 0)], 6, 9)
+    checks.equal(group, "an inserted cell further off than one", path_reach(steep), Fraction(40, 27))
+
+
+def path_reach(record):
+    """The largest distance on an axis of an inserted cell from the sample before it, 0 without any."""
+    return max(
+        (
+            abs(Fraction(*exact) - c)
+            for each in path(record)
+            if each.inserted
+            for exact, c in zip(samples(record)[each.sample,], each.cell, strict=True)
+        ),
+        default=Fraction(0),
+    )
+
+
+def random_path(dice, side):
+    """A random curve, now and then with a fault."""
+    record = random_record(dice, side)
+    while len(record.counts) > 1:
+        record = random_record(dice, side)
+    return record
+
+
+def check_paths(checks):
+    """Random paths, drawn and listed, held to their laws; wrong ways told apart; from the other end."""
+    group = "paths"
+    dice = random.Random(13)
+    answered, told, reach = Counter(), Counter(), Fraction(0)
+    for number in range(700):
+        side = dice.choice((2, 3, 4, 5, 8, 13, 20))
+        record = random_path(dice, side)
+        called = dice.choice((0, 1, 65, side + 1)) if dice.randrange(25) == 0 else side
+        grid = random_grid(dice, side)
+        answer = checks.draw_path(group, called, record, grid)
+        answered["drawing", answer.refusal] += 1
+        told.update(("drawing", way) for way in wrong_path_drawings(called, record, grid, answer))
+        n = record.counts[0] if record.counts[0] < 600 else 1
+        needed = 3 * len(path(record._replace(counts=(max(n, 1),))))
+        lent = dice.randbytes(dice.choice((needed, needed, needed + 5, needed - 1, 3 * n + 3, 9 * n + 3, 9 * n + 2)))
+        listed = list_path(called, record, lent)
+        answered["listing", listed.refusal] += 1
+        told.update(("listing", way) for way in wrong_path_listings(called, record, lent, listed))
+        other = list_path(called, with_other_choice(record)._replace(mark=record.mark ^ 1), lent)
+        checks.equal(group, f"mark and choice ignored {record}", other, listed)
+        short = len(lent) < needed and list_path(called, record, bytes(needed)).refusal is None
+        checks.equal(group, f"22 {record}", listed.refusal == 22, short)
+        if answer.refusal is None:
+            told.update(told_apart(called, record, grid, answer, path_cells))
+            reach = max(reach, path_reach(record))
+            back = draw_path(called, flip(record), grid)
+            checks.equal(group, f"from the other end, as many cells {record}", back[:2], answer[:2])
+            backwards = [*path_cells(flip(record)).values()][::-1]
+            by_z_first = along_path(row(cells(record)), moves_by("z", "y", "x"))
+            checks.equal(group, f"from the other end, z first {record}", backwards, by_z_first)
+            checks.other_end[back.lent == answer.lent] += 1
+        else:
+            checks.equal(group, f"kept {record}", (answer.lent, draw_path(called, flip(record), grid)), (grid, answer))
+    found = checks.other_end
+    checks.equal(group, f"from the other end, both 50 times or more: {found}", min(found[False], found[True]) >= 50, True)
+    checks.equal(group, f"inserted cells further off than one: {reach}", 1 < reach <= Fraction(3, 2), True)
+    for call, order in PATH_ORDERS.items():
+        expected = {None, *(number for number in order if number != 21)}
+        found = {number for which, number in answered if which == call} - {21}
+        checks.equal(group, f"every answer: {answered}", found, expected)
+        orders = WRONG_PATH_ORDERS[call]
+        few = {way: told[call, way] for way in WRONG_PATH_WAYS[call] if way not in orders and told[call, way] < 10}
+        checks.equal(group, f"wrong ways told apart by 10 {call}s or more: {told}", few, {})
+    few = {way: told[way] for way in WRONG_WAYS if told[way] < 5}
+    checks.equal(group, f"wrong counts and grids told apart by 5 drawings or more: {told}", few, {})
+
+
+def check_paths_in_lists(checks):
+    """Demand 3 for lists with paths among curves, patches and chosen counts, and what it does not let pass."""
+    group = "demand 3, paths"
+    dice = random.Random(14)
+    kinds = Counter()
+    for number in range(200):
+        side = dice.choice((2, 3, 4, 5, 8, 13, 20))
+        calls = []
+        for _ in range(dice.randrange(1, 9)):
+            called = dice.choice((0, 1, 65, side + 1)) if dice.randrange(8) == 0 else side
+            record = random_record(dice, side)
+            kind = dice.choice((Path, Path, Chosen, lambda record: record)) if len(record.counts) == 1 else lambda r: r
+            calls.append((called, kind(record)))
+        start = random_grid(dice, side)
+        grids = run(calls, start)
+        checks.equal(group, f"list {number}", demand_3(calls, grids), True)
+        news = 0
+        for k, (called, which) in enumerate(calls):
+            answer = drawn_by(called, which, grids[k])
+            news += answer.new or 0
+            if isinstance(which, Path):
+                checks.draw_path(group, called, which.record, grids[k])
+                kinds[which.record.choice, answer.refusal] += 1
+        checks.equal(group, f"list {number}, new cells", news, unmarked(start) - unmarked(grids[-1]))
+    for choice in OVER, UNDER:
+        found = {number for which, number in kinds if which == choice}
+        checks.equal(group, f"every answer, {choice}: {kinds}", found, {None, 11, 21, 12, 13, 14, 15})
+        checks.equal(group, f"80 accepted or more, {choice}: {kinds}", kinds[choice, None] >= 80, True)
+    # From (0, 0, 0) by (1, 0, 0) to (1, 1, 0): bytes 0, 1 and 3 of a cube of side 2.
+    step = from_cell_to_cell((0, 0, 0), (1, 1, 0), mark=9)
+    right = [PathCell((0, 0, 0), 0, False), PathCell((1, 0, 0), 0, True), PathCell((1, 1, 0), 1, False)]
+    start, drawn = bytes(8), bytes([9, 9, 0, 9, 0, 0, 0, 0])
+    checks.equal(group, "a step on two axes", draw_path(2, step, start), DrawAnswer(None, 3, 3, drawn))
+    others = bytes([0, 0, 7, 0, 0, 0, 0, 5])
+    for label, choice, before, after, holds in (
+        ("as it is", OVER, start, drawn, True),
+        ("a corner left open", OVER, start, bytes([9, 0, 0, 9, 0, 0, 0, 0]), False),
+        ("y first", OVER, start, bytes([9, 0, 9, 9, 0, 0, 0, 0]), False),
+        ("both ways", OVER, start, bytes([9, 9, 9, 9, 0, 0, 0, 0]), False),
+        ("the last cell left out", OVER, start, bytes([9, 9, 0, 0, 0, 0, 0, 0]), False),
+        ("nothing drawn", OVER, start, start, False),
+        ("another mark in the inserted cell", OVER, start, bytes([9, 8, 0, 9, 0, 0, 0, 0]), False),
+        ("over", OVER, others, bytes([9, 9, 7, 9, 0, 0, 0, 5]), True),
+        ("over an inserted cell", OVER, bytes([0, 7]) + start[2:], drawn, True),
+        ("over as under", OVER, bytes([0, 7]) + start[2:], bytes([9, 7, 0, 9, 0, 0, 0, 0]), False),
+        ("under an inserted cell", UNDER, bytes([0, 7]) + start[2:], bytes([9, 7, 0, 9, 0, 0, 0, 0]), True),
+        ("under as over", UNDER, bytes([0, 7]) + start[2:], drawn, False),
+        ("under, an inserted cell left out", UNDER, start, bytes([9, 0, 0, 9, 0, 0, 0, 0]), False),
+    ):
+        calls = [(2, Path(step._replace(choice=choice)))]
+        checks.equal(group, label, demand_3(calls, [before, after]), holds)
+    full = [bytes([9]) * 27] * 2
+    for label, found, holds in (
+        ("its own path", right, True),
+        ("without the inserted cell", [right[0], right[2]], False),
+        ("the inserted cell called a sample's", [right[0], right[1]._replace(inserted=False), right[2]], False),
+        ("an inserted cell too far off", [right[0], PathCell((2, 0, 0), 0, True), right[2]], False),
+        ("an inserted cell counted from the sample after it", [right[0], right[1]._replace(sample=1), right[2]], True),
+        ("a cell twice", [right[0], right[0], *right[1:]], False),
+        ("a cell for a sample that stays", [*right, right[2]], False),
+    ):
+        checks.equal(group, label, demand_3([(3, Path(step))], full, path_of=lambda record: found), holds)
+    checks.equal(group, "a curve's own cells are no path", demand_3([(2, Path(step))], run([(2, step)], start)), False)
+    checks.equal(group, "a path is more than a curve's cells", demand_3([(2, step)], run([(2, Path(step))], start)), False)
+
+
 def check_demand_3_can_fail(checks):
     """Document 01's impostors and slips are seen by the checks of demand 3, and strokes that go under wrongly."""
     group = "demand 3, impostors"
@@ -2309,6 +2852,9 @@ def self_check():
         check_quitting,
         check_chosen,
         check_flips,
+        check_path_samples,
+        check_paths,
+        check_paths_in_lists,
         check_demand_3_can_fail,
         check_random_calls,
     ):

@@ -1,4 +1,5 @@
 // Answers, with what lent bytes hold as a whole.
+use both_ways::Said;
 use cases::digest::begun;
 use cases::digest::eight;
 use cases::digest::extended;
@@ -13,6 +14,11 @@ pub(crate) struct Answer {
 // The answer to a record that is no case.
 pub(crate) fn none() -> Answer {
     holding(b'B', 0, 0, b"")
+}
+
+// What a call answered, and what the lent bytes hold.
+pub(crate) fn held(said: Said, lent: &[u8]) -> Answer {
+    holding(said.letter, said.number, said.new_cells, lent)
 }
 
 // A letter, a number, a number of new cells, and three for the lent bytes: their digest, begun with their number.

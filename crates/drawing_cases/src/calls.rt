@@ -17,7 +17,7 @@ use scan::answer::ListAnswer;
 // What a drawing answered.
 pub(crate) fn drawn(answer: DrawAnswer) -> Said {
     match answer {
-        DrawAnswer::Accepted(counts) => accepted(counts.samples, counts.new_cells),
+        DrawAnswer::Accepted(counts) => accepted(counts.answer, counts.new_cells),
         DrawAnswer::Refused(n) => refused(n),
     }
 }
@@ -25,7 +25,7 @@ pub(crate) fn drawn(answer: DrawAnswer) -> Said {
 // What a listing answered.
 pub(crate) fn listed(answer: ListAnswer) -> Said {
     match answer {
-        ListAnswer::Samples(n) => accepted(n, 0),
+        ListAnswer::Accepted(n) => accepted(n, 0),
         ListAnswer::Refused(n) => refused(n),
     }
 }
@@ -33,7 +33,7 @@ pub(crate) fn listed(answer: ListAnswer) -> Said {
 // The byte of a list from which on a listing left what it held.
 pub(crate) fn rest_after(answer: ListAnswer) -> usize {
     match answer {
-        ListAnswer::Samples(n) => 3 * (n as usize),
+        ListAnswer::Accepted(n) => 3 * (n as usize),
         ListAnswer::Refused(_) => 0,
     }
 }

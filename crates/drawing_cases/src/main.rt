@@ -9,6 +9,8 @@
 //     W side steps mark length 0 choice points     draws a curve with a chosen count, the lent bytes as its grid
 //     P side n mark length m choice points         draws a patch, the lent bytes as its grid
 //     Q side n mark 0 m choice points              checks a patch
+//     T side steps mark length 0 choice points     draws a curve's path, the lent bytes as its grid
+//     U side steps mark length 0 choice points     lists a curve's path, the lent bytes as its list
 //     V 0 steps mark length 0 choice points        flips a curve, whose points it writes to the lent bytes
 //     X 0 n mark length m choice points            flips a patch, whose points it writes to the lent bytes
 //
@@ -20,7 +22,7 @@
 //
 // Each of D L C M W P Q is called twice: with the record, and with its flip and other bytes that hold the same. The two
 // agree if they answer the same, and the bytes lent to both hold the same afterwards; of accepted listings, if the two lists
-// have the same cells in reverse order and the same bytes behind them. The answers are
+// have the same cells in reverse order and the same bytes behind them. T and U are called once. The answers are
 //
 //     A count new marked first second          accepted
 //     R number 0 marked first second           refused
@@ -31,16 +33,18 @@
 //     X n m mark first second                  flipped (hexadecimal)
 //     B                                        no such case
 //
-// where count is the number of samples, but for a check of a curve 1 if the step test quit and 0 if it walked, for a check
-// of a patch 0, and for M the chosen count; new is the number of the cells that a drawing turned from unmarked to marked, 0
-// for all others; and marked, first and second say what the lent bytes of the first call hold afterwards
-// (`answer::holding`); C, Q and M are lent none. Of a flip n, m and mark are its own, and 256 is added to the mark for under.
+// where count is the number of samples, but for T and U that of the path's cells, for a check of a curve 1 if the step test
+// quit and 0 if it walked, for a check of a patch 0, and for M the chosen count; new is the number of the cells that a
+// drawing turned from unmarked to marked, 0 for all others; and marked, first and second say what the lent bytes of the
+// first call hold afterwards (`answer::holding`); C, Q and M are lent none. Of a flip n, m and mark are its own, and 256 is
+// added to the mark for under.
 //
 // A case has 22 numbers, hence 199 bytes, and an answer five, hence 47 bytes.
 mod answer;
 mod bytes;
 mod calls;
 mod flips;
+mod once;
 mod twice;
 
 ghost use mathlib.Core.Path.{_≡_};
@@ -139,6 +143,8 @@ fn answer_within(case: &[u8], lent: &mut [u8], again: &mut [u8]) -> Answer
 {
     match case[0] {
         b'F' => bytes::fill(case, lent),
+        b'T' => once::draw_path(case, lent),
+        b'U' => once::list_path(case, lent),
         b'V' => flips::flip_curve(case, lent),
         b'X' => flips::flip_patch(case, lent),
         _ => answer_twice(case, lent, again),

@@ -2,6 +2,7 @@
 ghost use mathlib.Core.Path.{_≡_};
 ghost use lib.ListN.{length};
 use crate::answer::Answer;
+use crate::answer::held;
 use crate::answer::holding;
 use crate::calls::counted;
 use crate::calls::curve_checked;
@@ -107,11 +108,6 @@ fn answered(one: Said, other: Said, lent: &[u8], again: &[u8]) -> Answer {
     } else {
         apart(lent)
     }
-}
-
-// An answer, and what the lent bytes hold.
-fn held(said: Said, lent: &[u8]) -> Answer {
-    holding(said.letter, said.number, said.new_cells, lent)
 }
 
 // The two calls do not agree.
