@@ -100,19 +100,22 @@ enum {
 };
 
 /* Lengths in bytes by a side, a step count or a count of places, each within its limits: a grid or cube, exactly; a
-   curve's list, at least; a text for a part of a listing, at least. */
+   curve's list, at least; a path's list that is long enough whatever the points are; a text for a part of a listing, at
+   least. */
 #define GIDZKHALU_CUBE_BYTES(side) ((size_t)(side) * (size_t)(side) * (size_t)(side))
 #define GIDZKHALU_LIST_BYTES(steps) (GIDZKHALU_CELL_BYTES * ((size_t)(steps) + 1))
+#define GIDZKHALU_PATH_LIST_BYTES(steps) (GIDZKHALU_CELL_BYTES * (3 * (size_t)(steps) + 1))
 #define GIDZKHALU_PART_BYTES(count) (GIDZKHALU_LISTING_LINE_BYTES * ((size_t)(count) + 1))
 
 /* At each function, "Answer" is that of an accepted call, and "Refusals" are the numbers that it can answer minus, in the
    order in which they are tried. */
 
 /* Drawings: a cell whose byte is 0 is unmarked. With the choice 0 a drawing goes over: it writes its mark in the cell of
-   each sample. With the choice 1 it goes under: it writes its mark only where that cell is unmarked, and a marked cell
-   keeps what it holds. An accepted drawing writes into *new_cells how many cells it turned from unmarked to marked: a cell
-   is counted once, however many samples fall in it, and a mark written over another mark is not new. Over and under turn
-   the same cells of a grid to marked; under writes no others. A refused drawing leaves *new_cells as it was. */
+   each sample, or in each cell of a path. With the choice 1 it goes under: it writes its mark only where that cell is
+   unmarked, and a marked cell keeps what it holds. An accepted drawing writes into *new_cells how many cells it turned
+   from unmarked to marked: a cell is counted once, however often the drawing comes to it, and a mark written over another
+   mark is not new. Over and under turn the same cells of a grid to marked; under writes no others. A refused drawing
+   leaves *new_cells as it was. */
 
 /* Curves: points has x y z of points 0 to 3, 12 bytes. A cell (x, y, z) stands at byte x + side y + side side z. The cell
    of a sample has on each axis the whole number c with c - 1/2 < value <= c + 1/2. The cells of neighbouring samples, of a
@@ -156,11 +159,34 @@ int64_t gidzkhalu_draw_chosen(uint32_t side, const uint8_t *points, size_t point
 
 /* Writes the points of the curve's flip, its own in reverse order, 12 bytes; its steps, mark and choice are the curve's.
    At any side, from lists of the same length and grids of the same bytes, a curve and its flip are accepted or refused with
-   the same number. They list the same cells, the flip in reverse order, and in all else have the same answers, new cells and
-   grids. The flip of the flip is the curve. Nothing is asked of the coordinates. Answer: 0.
+   the same number. They list the same cells, the flip in reverse order, and in all else, but for paths, have the same
+   answers, new cells and grids. The flip of the flip is the curve. Nothing is asked of the coordinates. Answer: 0.
    Refusals: 51, 52.
    Stack: 8 bytes. Instructions: 24. Environment: any. */
 int64_t gidzkhalu_flip_curve(const uint8_t *points, size_t points_len, uint8_t *flipped, size_t flipped_len);
+
+/* Paths: a curve's cells face to face. The path begins with the cell of sample 0. From the cell of each sample it leads to
+   that of the next: x moves first, then y, then z, each by one cell or not at all, and each move adds the cell that it
+   comes to. So neighbouring cells of a path differ by one on one axis, a sample whose cell is that of the one before adds
+   none, and a cell can come more than once. The number of cells is 1 and the moves of all steps, at most 3 steps + 1. The
+   cell of a sample lies within half a cell of it on each axis, a cell between within one and a half of the sample before
+   it. The path of a curve's flip can have other cells. */
+
+/* Writes x y z of the cells of the curve's path from the front of the list and leaves the rest. Answer: the number of
+   cells.
+   Refusals: 51, 11, 13, 14, 15, 22 (the list is shorter than 3 bytes for each cell of the path).
+   With a list of GIDZKHALU_PATH_LIST_BYTES(steps) or more nothing is counted; with a shorter one the cells are counted
+   first, by a walk of its own.
+   Stack: 352 bytes. Instructions: 38768. Environment: any. */
+int64_t gidzkhalu_list_path(uint32_t side, const uint8_t *points, size_t points_len, uint32_t steps,
+                            uint8_t *list, size_t list_len);
+
+/* Draws the curve's path, over or under, and writes the count of new cells, from 0 to the number of cells, into
+   *new_cells. Answer: the number of cells.
+   Refusals: 51, 55, 11, 21, 12, 13, 14, 15.
+   Stack: 320 bytes. Instructions: 17788. Environment: any. */
+int64_t gidzkhalu_draw_path(uint32_t side, const uint8_t *points, size_t points_len, uint32_t steps, uint8_t mark,
+                            uint32_t choice, uint8_t *grid, size_t grid_len, uint32_t *new_cells);
 
 /* Patches: points has x y z of points 0 to 15, 48 bytes; g(i, j), i along t and j along u, is point 4 i + j. n steps
    along t, m along u. */

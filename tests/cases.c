@@ -272,15 +272,70 @@ static size_t bad_points_len(size_t right) {
     return len == right ? right - 1 : len;
 }
 
+/* The bytes that the list of a path takes, or where there is none those of its samples. */
+static size_t path_bytes(const struct object_call *call) {
+    if (call->points_len != 12 || call->n < 1 || call->n > 600)
+        return 3 * ((size_t)(call->n > 600 ? 600 : call->n) + 1);
+    return 3 * path_length(call);
+}
+
+/* So many, that many for the samples or for the longest path, or one or two more or less, or any between. */
+static size_t path_list_length(const struct object_call *call) {
+    size_t least = path_bytes(call), n = call->n > 600 ? 600 : call->n, some;
+    switch (below(8)) {
+    case 0:
+    case 1:
+        some = least;
+        break;
+    case 2:
+    case 3:
+        some = least + 1 + below(3);
+        break;
+    case 4:
+        some = 3 * (n + 1) + below(4);
+        break;
+    case 5:
+        some = 3 * (3 * n + 1) + below(3) - 1;
+        break;
+    case 6:
+        some = 3 * (3 * n + 1) + below(20);
+        break;
+    default:
+        some = least + below((uint32_t)(6 * n + 3));
+    }
+    return some < least ? least : some;
+}
+
+/* One, two, three or any number of bytes too few, that many for the samples, or too few for any cell. */
+static size_t short_path_list(const struct object_call *call) {
+    size_t least = path_bytes(call), samples = 3 * ((size_t)(call->n > 600 ? 600 : call->n) + 1);
+    switch (below(6)) {
+    case 0:
+    case 1:
+        return least - 1 - below(3);
+    case 2:
+        return samples < least ? samples : least - 1;
+    case 3:
+        return below(3);
+    default:
+        return below((uint32_t)least);
+    }
+}
+
 size_t right_length(const struct object_call *call) {
     uint32_t cube = call->side * call->side * call->side;
+    if (call->service == LIST_PATH)
+        return path_list_length(call);
     if (call->service == LIST)
         return 3 * ((size_t)(call->n > 1000 ? 1000 : call->n) + 1) + (one_in(2) ? 0 : below(20));
     return cube <= 300000 ? cube : below(1000);
 }
 
 static size_t bad_length(const struct object_call *call) {
-    size_t right = right_length(call);
+    size_t right;
+    if (call->service == LIST_PATH)
+        return short_path_list(call);
+    right = right_length(call);
     if (call->service == LIST) {
         size_t least = 3 * ((size_t)(call->n > 1000 ? 1000 : call->n) + 1);
         return one_in(2) ? least - 1 : below((uint32_t)least);
@@ -320,10 +375,26 @@ static void end_record(struct object_call *call, uint8_t *points, unsigned fault
     call->lent_len = (faults & BAD_LENGTH) != 0 ? bad_length(call) : right_length(call);
 }
 
+/* A straight curve that moves by one on each axis at every step, or one that goes up and down, or down and up, on each. */
+static void moving_path(struct object_call *call, uint8_t *points) {
+    uint32_t last = call->side - 1, third = last < 3 || one_in(2) ? 0 : 1 + below(last / 3);
+    for (uint32_t axis = 0; axis < 3; axis++) {
+        uint32_t low = third == 0 ? 0 : below(call->side - 3 * third), most = third == 0 ? last : 3 * third;
+        int back = one_in(2);
+        for (uint32_t k = 0; k < 4; k++) {
+            uint32_t c = third > 0 ? third * k : k == 1 || k == 2 ? last : below(last < 3 ? last + 1 : 4);
+            points[3 * k + axis] = (uint8_t)(low + (back ? most - c : c));
+        }
+    }
+    call->n = third > 0 ? 3 * third : 512 - below(323);
+}
+
 void random_object(struct object_call *call, uint8_t *points, int large, unsigned faults) {
     begin_record(call, points, faults);
     random_points(points, call->patch, call->side, large);
     random_counts(call, large);
+    if (of_path(call) && one_in(large ? 4 : 32))
+        moving_path(call, points);
     if (faults & LONG_STEP)
         long_step(call, points, faults);
     if (faults & BAD_COUNT)

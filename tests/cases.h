@@ -50,7 +50,8 @@ enum { CHOSEN_FAULTS = BAD_RECORD | BAD_SIDE | BAD_LENGTH | BAD_MARK | BAD_COORD
 
 void random_chosen(struct object_call *call, uint8_t *points, int large, unsigned faults);
 
-/* A grid of side^3 bytes, or a list of 3 (n + 1) bytes and a few more. A cube that is too large gets its 32-bit length. */
+/* A grid of side^3 bytes, or a list of 3 (n + 1) bytes and a few more, or for a path a list of 3 x its cells, up to
+   3 (3 n + 1) and a few more. A cube that is too large gets its 32-bit length. */
 size_t right_length(const struct object_call *call);
 
 /* The f32 of a bit pattern. */

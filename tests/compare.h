@@ -153,6 +153,44 @@ void count_order(struct counts *counts, const struct order *order);
     X(CHOSEN_GRID_LONG, "21 for a drawing with a chosen count, a grid one byte long")                                  \
     X(CHOSEN_CHOICE_2, "55 for a drawing with a chosen count, the choice 2")                                           \
     X(CHOSEN_CHOICE_256, "55 for a drawing with a chosen count, the choice 256")                                       \
+    X(PATH_LIST_EXACT, "accepted lists of a path, of exactly 3 x its cells, below 3 (3 n + 1)")                        \
+    X(PATH_LIST_SHORT, "22 for a path, a list one byte short")                                                         \
+    X(PATH_SHORT_CELL, "22 for a path, a list three bytes short")                                                      \
+    X(PATH_LIST_SAMPLES, "accepted lists of a path, of 3 (n + 1) bytes and more than its cells take")                  \
+    X(PATH_SHORT_SAMPLES, "22 for a path, a list of 3 (n + 1) bytes or more")                                          \
+    X(PATH_LIST_BELOW_SAMPLES, "accepted lists of a path, of fewer than 3 (n + 1) bytes")                              \
+    X(PATH_LIST_BELOW_MOST, "accepted lists of a path, of one byte fewer than 3 (3 n + 1)")                            \
+    X(PATH_LIST_MOST, "accepted lists of a path, of exactly 3 (3 n + 1) bytes, not all of them written")               \
+    X(PATH_LIST_FULL, "accepted lists of a path of 3 n + 1 cells, n above 1, of exactly that many")                    \
+    X(PATH_SHORT_FULL, "22 for a path of 3 n + 1 cells, n above 1, a list one byte short")                             \
+    X(PATH_ONE_CELL, "paths of one cell")                                                                              \
+    X(PATH_LONG, "paths of more than 200 cells")                                                                       \
+    X(PATH_COMES_BACK, "paths that come to a cell again")                                                              \
+    X(PATH_HALF_RISING, "samples of paths on a half, above the sample before")                                         \
+    X(PATH_HALF_FALLING, "samples of paths on a half, below the sample before")                                        \
+    X(PATH_NEAR_HALF, "samples of paths as near to a half as their scale allows")                                      \
+    X(PATH_STEP_ONE, "accepted paths with a step of exactly one cell")                                                 \
+    X(PATH_SIDE_1, "11 for a path of side 1")                                                                          \
+    X(PATH_SIDE_2, "accepted paths of side 2")                                                                         \
+    X(PATH_SIDE_64, "accepted paths of side 64")                                                                       \
+    X(PATH_SIDE_65, "11 for a path of side 65")                                                                        \
+    X(PATH_COUNT_0, "13 for a path of 0 steps")                                                                        \
+    X(PATH_COUNT_1, "accepted paths of 1 step")                                                                        \
+    X(PATH_512, "accepted paths of 512 steps")                                                                         \
+    X(PATH_513, "13 for a path of 513 steps")                                                                          \
+    X(PATH_QUIT, "accepted paths whose test quits")                                                                    \
+    X(PATH_WALKED, "accepted paths whose test walks")                                                                  \
+    X(PATH_COORDINATE_LAST, "accepted paths with a coordinate side - 1")                                               \
+    X(PATH_COORDINATE_SIDE, "14 for a path with a coordinate equal to the side")                                       \
+    X(PATH_LONG_STEP, "15 for a path, a list of 3 (3 n + 1) bytes or more")                                            \
+    X(PATH_GRID_SHORT, "21 for a path, a grid one byte short")                                                         \
+    X(PATH_GRID_LONG, "21 for a path, a grid one byte long")                                                           \
+    X(PATH_CHOICE_2, "55 for a path, the choice 2")                                                                    \
+    X(PATH_CHOICE_256, "55 for a path, the choice 256")                                                                \
+    X(PATH_BY_SAMPLES, "paths compared with those made from the library's lists of samples")                           \
+    X(PATH_BETWEEN_NEW, "paths drawn with new cells that no sample has")                                               \
+    X(PATH_BETWEEN_KEPT, "paths drawn under marked cells that no sample has")                                          \
+    X(PATH_FLIP_OTHER, "paths of a curve and of its flip that do not have the same cells")                             \
     X(CURVE_OVER_UNMARKED, "curves drawn over, into an unmarked grid")                                                 \
     X(CURVE_OVER_HALF, "curves drawn over, 2 to 3 fifths of the grid marked, some cells new and some not")             \
     X(CURVE_OVER_MARKED, "curves drawn over, into a grid without an unmarked cell")                                    \
@@ -171,6 +209,12 @@ void count_order(struct counts *counts, const struct order *order);
     X(CHOSEN_UNDER_UNMARKED, "curves drawn under with a chosen count, into an unmarked grid")                          \
     X(CHOSEN_UNDER_HALF, "the same, 2 to 3 fifths of the grid marked, some cells new and some not")                    \
     X(CHOSEN_UNDER_MARKED, "the same, into a grid without an unmarked cell")                                           \
+    X(PATH_OVER_UNMARKED, "paths drawn over, into an unmarked grid")                                                   \
+    X(PATH_OVER_HALF, "the same, 2 to 3 fifths of the grid marked, some cells new and some not")                       \
+    X(PATH_OVER_MARKED, "the same, into a grid without an unmarked cell")                                              \
+    X(PATH_UNDER_UNMARKED, "paths drawn under, into an unmarked grid")                                                 \
+    X(PATH_UNDER_HALF, "the same, 2 to 3 fifths of the grid marked, some cells new and some not")                      \
+    X(PATH_UNDER_MARKED, "the same, into a grid without an unmarked cell")                                             \
     X(ALL_SAMPLES_NEW, "drawings with a new cell for every sample")                                                    \
     X(GRID_FILLED, "drawings that leave no cell unmarked, some new")                                                   \
     X(ONE_CELL_NEW, "curves with all samples in one cell, a new one")                                                  \
@@ -290,7 +334,8 @@ void count_order(struct counts *counts, const struct order *order);
     X(NULL_TEXT, "NULL for a text of length 0")                                                                        \
     X(LIST_OF_THREE, "lists with three accepted calls or more")                                                        \
     X(LIST_OF_BOTH, "lists with accepted calls of both choices")                                                       \
-    X(LIST_OF_CHOSEN, "lists with accepted curves of both kinds, their counts passed and chosen")
+    X(LIST_OF_CHOSEN, "lists with accepted curves of both kinds, their counts passed and chosen")                      \
+    X(LIST_OF_PATHS, "lists with accepted paths and others")
 
 #define MET_NAME(name, words) name,
 enum met { MET(MET_NAME) METS };

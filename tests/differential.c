@@ -20,7 +20,8 @@ static struct lent points = {.name = "points"}, grid = {.name = "grid or list"},
 
 /* Curves and patches */
 
-static const char *const SERVICE[] = {"check", "list", "draw", "choose the steps of", "draw with chosen steps"};
+static const char *const SERVICE[] = {
+    "check", "list", "draw", "choose the steps of", "draw with chosen steps", "list the path of", "draw the path of"};
 
 static void print_object(const struct object_call *c) {
     printf("  %s %s: side %" PRIu32, SERVICE[c->service], c->patch ? "patch" : "curve", c->side);
@@ -30,8 +31,8 @@ static void print_object(const struct object_call *c) {
         printf(", m %" PRIu32, c->m);
     if (draws(c))
         printf(", mark %d, choice %" PRIu32, c->mark, c->choice);
-    if (c->service == LIST || draws(c))
-        printf(", %s of %zu bytes", c->service == LIST ? "list" : "grid", c->lent_len);
+    if (lists(c) || draws(c))
+        printf(", %s of %zu bytes", lists(c) ? "list" : "grid", c->lent_len);
     printf("\n");
     print_bytes("points", c->points, c->points_len);
 }
@@ -48,6 +49,10 @@ static int64_t library_object(const struct object_call *c) {
         return gidzkhalu_check_curve(c->side, p, len, c->n);
     if (c->service == LIST)
         return gidzkhalu_list_curve(c->side, p, len, c->n, c->lent, c->lent_len);
+    if (c->service == LIST_PATH)
+        return gidzkhalu_list_path(c->side, p, len, c->n, c->lent, c->lent_len);
+    if (c->service == DRAW_PATH)
+        return gidzkhalu_draw_path(c->side, p, len, c->n, c->mark, c->choice, c->lent, c->lent_len, c->new_cells);
     if (c->service == CHOOSE)
         return gidzkhalu_choose_steps(c->side, p, len);
     if (c->service == DRAW_CHOSEN)
@@ -136,8 +141,12 @@ static void meet_refused_curve(const struct object_call *c, int64_t answer) {
     meet(QUIT_14, answer == -14 && quits);
 }
 
-/* The values of the last object that passed all numbers before 15, and its cells if it was accepted. */
-static struct samples samples;
+/* The values of the last object that passed all numbers before 15, and its cells if it was accepted. Of an accepted path
+   its own cells are in path. */
+static struct samples samples, path;
+
+/* What an accepted call lists or draws. */
+static const struct samples *cells_of(const struct object_call *c) { return of_path(c) ? &path : &samples; }
 
 static int ends_apart_by(const struct object_call *c, uint32_t far) {
     int some = 0;
@@ -171,6 +180,70 @@ static void meet_refused_choice(const struct object_call *c, int64_t answer) {
     meet(CHOSEN_GRID_LONG, answer == -21 && c->lent_len == volume + 1);
     meet(CHOSEN_CHOICE_2, answer == -55 && c->choice == 2);
     meet(CHOSEN_CHOICE_256, answer == -55 && c->choice == 256);
+}
+
+/* The steps of accepted paths by their moves: at 9 (x + 1) + 3 (y + 1) + z + 1, each -1, 0 or 1. */
+enum { WAYS = 27 };
+
+static uint64_t path_steps[WAYS];
+
+static void count_path_steps(void) {
+    for (size_t at = 1; at < samples.along; at++) {
+        int way = 0;
+        for (int axis = 0; axis < 3; axis++)
+            way = 3 * way + samples.cell[axis][at] - samples.cell[axis][at - 1] + 1;
+        path_steps[way]++;
+    }
+}
+
+/* Of an accepted path; answer: of the reference. */
+static void meet_accepted_path(const struct object_call *c, int64_t answer) {
+    size_t n = c->n, listed = c->service == LIST_PATH ? 3 * (size_t)answer : 0, len = c->lent_len;
+    count_path_steps();
+    count_ties(&samples, &met[PATH_HALF_RISING], &met[PATH_HALF_FALLING], &met[PATH_NEAR_HALF]);
+    if (listed > 0) {
+        meet(PATH_LIST_EXACT, len == listed && len < 3 * (3 * n + 1));
+        meet(PATH_LIST_SAMPLES, len == 3 * (n + 1) && listed < len);
+        meet(PATH_LIST_BELOW_SAMPLES, len < 3 * (n + 1));
+        meet(PATH_LIST_BELOW_MOST, len + 1 == 3 * (3 * n + 1));
+        meet(PATH_LIST_MOST, len == 3 * (3 * n + 1) && listed < len);
+        meet(PATH_LIST_FULL, len == listed && n > 1 && len == 3 * (3 * n + 1));
+    }
+    meet(PATH_ONE_CELL, answer == 1);
+    meet(PATH_LONG, answer > 200);
+    meet(PATH_COMES_BACK, different_cells(&path, c->side) < path.along);
+    meet(PATH_STEP_ONE, longest_step(&samples) == samples.scale);
+    meet(PATH_SIDE_2, c->side == 2);
+    meet(PATH_SIDE_64, c->side == 64);
+    meet(PATH_COUNT_1, n == 1);
+    meet(PATH_512, n == 512);
+    meet(test_quits(c) ? PATH_QUIT : PATH_WALKED, 1);
+    meet(PATH_COORDINATE_LAST, any_coordinate(c, c->side - 1));
+}
+
+/* Of a path's list that is too short: the cells of the samples are there. */
+static void meet_short_path(const struct object_call *c) {
+    size_t n = c->n, listed = 3 * path_length(c), len = c->lent_len;
+    meet(PATH_LIST_SHORT, len + 1 == listed);
+    meet(PATH_SHORT_CELL, len + 3 == listed);
+    meet(PATH_SHORT_SAMPLES, len >= 3 * (n + 1));
+    meet(PATH_SHORT_FULL, len + 1 == listed && n > 1 && listed == 3 * (3 * n + 1));
+}
+
+static void meet_refused_path(const struct object_call *c, int64_t answer) {
+    size_t volume = (size_t)c->side * c->side * c->side;
+    if (answer == -22)
+        meet_short_path(c);
+    meet(PATH_SIDE_1, answer == -11 && c->side == 1);
+    meet(PATH_SIDE_65, answer == -11 && c->side == 65);
+    meet(PATH_COUNT_0, answer == -13 && c->n == 0);
+    meet(PATH_513, answer == -13 && c->n == 513);
+    meet(PATH_COORDINATE_SIDE, answer == -14 && any_coordinate(c, c->side));
+    meet(PATH_LONG_STEP, answer == -15 && c->service == LIST_PATH && c->lent_len >= 3 * (3 * (size_t)c->n + 1));
+    meet(PATH_GRID_SHORT, answer == -21 && c->lent_len + 1 == volume);
+    meet(PATH_GRID_LONG, answer == -21 && c->lent_len == volume + 1);
+    meet(PATH_CHOICE_2, answer == -55 && c->choice == 2);
+    meet(PATH_CHOICE_256, answer == -55 && c->choice == 256);
 }
 
 /* The neighbours of accepted patches whose cells differ by more than one on some axis. */
@@ -227,7 +300,12 @@ static void meet_refused_object(const struct object_call *c, int64_t answer) {
 }
 
 static void meet_object(const struct object_call *c, int64_t answer) {
-    if (answer >= 0 && chooses(c)) {
+    if (of_path(c)) {
+        if (answer >= 0)
+            meet_accepted_path(c, answer);
+        else
+            meet_refused_path(c, answer);
+    } else if (answer >= 0 && chooses(c)) {
         meet_accepted_choice(c);
     } else if (answer >= 0) {
         meet_accepted_object(c);
@@ -254,15 +332,17 @@ static void count_drawing(int64_t answer) {
 }
 
 /* Compares the count of a drawing; unmarked is the number of unmarked cells of its grid before it. Those that the library
-   counts in an accepted one are no more than its samples, its different cells and the unmarked cells. */
+   counts in an accepted one are no more than its samples, or the cells of its path, its different cells and the unmarked
+   cells. */
 static int compare_new_cells(const struct object_call *c, int64_t answer, size_t unmarked) {
-    uint32_t count = *number_at(new_cells.got), kind = c->service == DRAW_CHOSEN ? 2 : c->patch != 0;
+    uint32_t count = *number_at(new_cells.got);
+    uint32_t kind = c->service == DRAW_PATH ? 3 : c->service == DRAW_CHOSEN ? 2 : c->patch != 0;
     uint32_t drawn = 6 * kind + 3 * c->choice;
     size_t cells;
     count_drawing(answer);
     if (answer < 0)
         return same(&new_cells);
-    cells = different_cells(&samples, c->side);
+    cells = different_cells(cells_of(c), c->side);
     meet((enum met)(CURVE_OVER_UNMARKED + drawn), unmarked == grid.len);
     meet((enum met)(CURVE_OVER_HALF + drawn),
          2 * grid.len <= 5 * unmarked && 5 * unmarked <= 3 * grid.len && 0 < count && count < cells);
@@ -272,7 +352,7 @@ static int compare_new_cells(const struct object_call *c, int64_t answer, size_t
     meet(ONE_CELL_NEW, !c->patch && cells == 1 && count == 1);
     meet(ONE_CELL_MARKED, !c->patch && cells == 1 && count == 0);
     meet(c->choice == OVER ? OVER_COMES_BACK : UNDER_COMES_BACK,
-         !c->patch && turns(&samples) > cells && count == cells);
+         !c->patch && turns(cells_of(c)) > cells && count == cells);
     return same(&new_cells) && count <= (uint64_t)answer && count <= cells && count <= unmarked;
 }
 
@@ -283,16 +363,17 @@ static int compare_object(struct object_call *c, int64_t *want) {
     size_t unmarked = draws(c) ? unmarked_cells(grid.want, grid.len) : 0;
     uint64_t apart;
     int64_t got;
-    int agreed;
+    int agreed, leads;
     lend_number(&new_cells);
     c->points = points.want;
     c->lent = grid.want;
     c->new_cells = number_at(new_cells.want);
-    *want = reference_object(c, &order, &samples);
+    *want = reference_object(c, &order, &samples, &path);
     apart = *want >= 0 ? cells_apart(c) : 0;
+    leads = *want < 0 || !of_path(c) || path_leads(&samples, &path);
     c->points = passed(&points, NULL_POINTS);
-    if (c->service == LIST || draws(c))
-        c->lent = passed(&grid, c->service == LIST ? NULL_LIST : NULL_GRID);
+    if (lists(c) || draws(c))
+        c->lent = passed(&grid, lists(c) ? NULL_LIST : NULL_GRID);
     c->new_cells = number_at(new_cells.got);
     got = library_object(c);
     if (*want >= 0 && chooses(c))
@@ -300,7 +381,7 @@ static int compare_object(struct object_call *c, int64_t *want) {
     count_order(running.counts, &order);
     count_check(c, *want);
     meet_object(c, *want);
-    agreed = apart == 0 && *want == got && same(&points) && same(&grid);
+    agreed = apart == 0 && leads && *want == got && same(&points) && same(&grid);
     if (draws(c))
         agreed &= compare_new_cells(c, *want, unmarked);
     if (agreed)
@@ -308,6 +389,8 @@ static int compare_object(struct object_call *c, int64_t *want) {
     print_failure(*want, got);
     if (apart > 0)
         printf("  neighbours whose cells are more than one apart: %" PRIu64 "\n", apart);
+    if (!leads)
+        printf("  the reference's path is not face to face from sample to sample\n");
     c->points = points.want;
     print_object(c);
     print_difference(&points);
@@ -324,7 +407,7 @@ static int object_case(enum service service, int patch, int large, unsigned faul
     c.side = !large ? random_side() : one_in(2) ? 64 : 33 + below(32);
     random_object(&c, record, large, faults);
     lend_bytes(&points, record, c.points_len);
-    if (service == LIST)
+    if (lists(&c))
         lend(&grid, c.lent_len);
     else
         lend_cube(&grid, draws(&c) ? c.lent_len : 0);
@@ -336,6 +419,13 @@ static int list_curve(void) { return object_case(LIST, 0, 0, random_faults(ALL_F
 static int draw_curve(void) { return object_case(DRAW, 0, 0, random_faults(ALL_FAULTS)); }
 static int check_patch(void) { return object_case(CHECK, 1, 0, random_faults(ALL_FAULTS)); }
 static int draw_patch(void) { return object_case(DRAW, 1, 0, random_faults(ALL_FAULTS)); }
+
+static int list_path(void) { return object_case(LIST_PATH, 0, 0, random_faults(ALL_FAULTS)); }
+static int draw_path(void) { return object_case(DRAW_PATH, 0, 0, random_faults(ALL_FAULTS)); }
+
+static int large_path(void) {
+    return object_case(one_in(2) ? LIST_PATH : DRAW_PATH, 0, 1, one_in(4) ? random_faults(ALL_FAULTS) : 0);
+}
 
 static int large_curve(void) {
     return object_case((enum service)below(3), 0, 1, one_in(4) ? random_faults(ALL_FAULTS) : 0);
@@ -839,7 +929,7 @@ static int refusal_line(void) {
 
 /* A length of the record or a choice that is wrong. */
 static int wrong_record(enum service service, int patch) {
-    int draws_it = service == DRAW || service == DRAW_CHOSEN;
+    int draws_it = service == DRAW || service == DRAW_CHOSEN || service == DRAW_PATH;
     unsigned fault = draws_it && one_in(2) ? BAD_CHOICE : BAD_RECORD;
     return object_case(service, patch, 0, fault | random_faults(ALL_FAULTS));
 }
@@ -859,7 +949,7 @@ static int wrong_length(void) {
     case 7:
         return wrong_record(one_in(2) ? CHECK : DRAW, 1);
     default:
-        return wrong_record((enum service)below(5), 0);
+        return wrong_record((enum service)below(7), 0);
     }
 }
 
@@ -870,8 +960,24 @@ enum { CELLS = 64 * 64 * 64, LONGEST_GRID = 300001 }; /* of a wrong length as we
 /* Of the accepted drawing compared last, which went under. */
 static void meet_under(const struct object_call *c, const uint8_t *before) {
     meet(UNDER_NOTHING, *number_at(new_cells.got) == 0 && unmarked_cells(before, grid.len) > 0);
-    meet(UNDER_OWN_MARK, meets_mark(&samples, c->side, c->mark, before));
-    meet(UNDER_GAP, !c->patch && meets_gap(&samples, c->side, before));
+    meet(UNDER_OWN_MARK, meets_mark(cells_of(c), c->side, c->mark, before));
+    meet(UNDER_GAP, !c->patch && meets_gap(cells_of(c), c->side, before));
+}
+
+/* Of the accepted path drawn last: some cell that no sample has was unmarked, or went under a mark. */
+static void meet_between(const struct object_call *c, const uint8_t *before) {
+    static uint8_t other[CELLS];
+    size_t unmarked;
+    memcpy(other, before, grid.len);
+    mark_cells(&samples, c->side, 1, OVER, other);
+    unmarked = unmarked_cells(other, grid.len);
+    mark_cells(&path, c->side, 1, UNDER, other);
+    meet(PATH_BETWEEN_NEW, unmarked_cells(other, grid.len) < unmarked);
+    memcpy(other, before, grid.len);
+    mark_cells(&samples, c->side, 0, OVER, other);
+    unmarked = unmarked_cells(other, grid.len);
+    mark_cells(&path, c->side, 0, OVER, other);
+    meet(PATH_BETWEEN_KEPT, c->choice == UNDER && unmarked_cells(other, grid.len) > unmarked);
 }
 
 /* What is wrong with the library's grid after the accepted drawing compared last, by the documents' words, or NULL. */
@@ -879,12 +985,14 @@ static const char *fault_of_drawing(const struct object_call *c, const uint8_t *
     static uint8_t backwards[CELLS];
     if (!samples_hold(&samples, c, before, grid.got))
         return "demand 3's second sentence does not hold after the last call";
-    if (!others_kept(&samples, c, before, grid.got))
-        return "the last call has changed a cell that has no sample";
+    if (of_path(c) && !path_holds(&path, c, before, grid.got))
+        return "a cell of the path does not hold what it is to hold after the last call";
+    if (!others_kept(cells_of(c), c, before, grid.got))
+        return "the last call has changed a cell that has no sample and is on no path";
     if (c->choice == UNDER && !marks_kept(before, grid.got, grid.len))
         return "the last call went under and has changed a marked cell";
     memcpy(backwards, before, grid.len);
-    mark_backwards(&samples, c->side, c->mark, (enum choice)c->choice, backwards);
+    mark_backwards(cells_of(c), c->side, c->mark, (enum choice)c->choice, backwards);
     if (memcmp(backwards, grid.got, grid.len) != 0)
         return "the last call's samples in reverse order leave another grid";
     return NULL;
@@ -911,8 +1019,100 @@ static int compare_drawing(struct object_call *c, int64_t *answer) {
         return 1;
     if (c->choice == UNDER)
         meet_under(c, before);
+    if (of_path(c))
+        meet_between(c, before);
     fault = fault_of_drawing(c, before);
     return fault == NULL || print_drawing(fault, c, before);
+}
+
+/* Paths, by the library's list of samples */
+
+static int reversed(const uint8_t *list, const uint8_t *back, size_t cells) {
+    for (size_t i = 0; i < cells; i++)
+        if (memcmp(list + 3 * i, back + 3 * (cells - 1 - i), 3) != 0)
+            return 0;
+    return 1;
+}
+
+/* The path through cells of three bytes; answers the number of its cells. */
+static size_t path_through(const uint8_t *cell, size_t cells, uint8_t *to) {
+    size_t length = 1;
+    memcpy(to, cell, 3);
+    for (size_t at = 1; at < cells; at++)
+        for (size_t axis = 0; axis < 3; axis++)
+            if (cell[3 * at + axis] != cell[3 * (at - 1) + axis]) {
+                memcpy(to + 3 * length, to + 3 * (length - 1), 3);
+                to[3 * length + axis] = cell[3 * at + axis];
+                length++;
+            }
+    return length;
+}
+
+enum { LONGEST_PATH = 3 * GIDZKHALU_CURVE_STEPS_MOST + 1 };
+
+/* What is wrong with the library's path, listed into the grid buffer, beside the cells that it lists for the samples, or
+   NULL. */
+static const char *fault_of_path(const struct object_call *c, int64_t answer) {
+    static uint8_t sampled[GIDZKHALU_LIST_BYTES(GIDZKHALU_CURVE_STEPS_MOST)], made[3 * LONGEST_PATH];
+    size_t length;
+    if (gidzkhalu_list_curve(c->side, points.got, points.len, c->n, sampled, sizeof sampled) != (int64_t)c->n + 1)
+        return "the curve cannot be listed";
+    length = path_through(sampled, c->n + 1, made);
+    if (answer != (int64_t)length || memcmp(made, grid.got, 3 * length) != 0)
+        return "the library's list of samples leads to another path";
+    return NULL;
+}
+
+/* A mark in each cell of a list. */
+static void mark_listed(const uint8_t *list, size_t cells, const struct object_call *c, uint8_t *to) {
+    for (size_t at = 0; at < cells; at++) {
+        uint8_t *cell = to + list[3 * at] + c->side * (list[3 * at + 1] + c->side * (size_t)list[3 * at + 2]);
+        if (c->choice == OVER || *cell == 0)
+            *cell = c->mark;
+    }
+}
+
+/* The flip's path, by the library, has as many cells; others, or in another order, are met. */
+static const char *fault_of_flipped_path(const struct object_call *c, const uint8_t *listed, int64_t answer) {
+    static uint8_t back[3 * LONGEST_PATH];
+    uint8_t record[GIDZKHALU_CURVE_BYTES];
+    for (int k = 0; k < 4; k++)
+        memcpy(record + 3 * (3 - k), points.got + 3 * k, 3);
+    if (gidzkhalu_list_path(c->side, record, sizeof record, c->n, back, sizeof back) != answer)
+        return "the flip's path has not as many cells";
+    meet(PATH_FLIP_OTHER, !reversed(listed, back, (size_t)answer));
+    return NULL;
+}
+
+/* A curve's path listed and drawn. */
+static int path_by_samples(void) {
+    static uint8_t listed[3 * LONGEST_PATH], start[CELLS];
+    struct object_call c = {LIST_PATH, 0, random_side(), 0, 0, 0, OVER, NULL, 0, NULL, 0, NULL};
+    uint8_t record[64];
+    const char *fault;
+    int64_t answer, drawn;
+    random_object(&c, record, one_in(40), 0);
+    lend_bytes(&points, record, c.points_len);
+    lend(&grid, c.lent_len);
+    if (!compare_object(&c, &answer))
+        return 0;
+    if (answer < 0)
+        return 1;
+    memcpy(listed, grid.got, 3 * (size_t)answer);
+    fault = fault_of_path(&c, answer);
+    if (fault == NULL)
+        fault = fault_of_flipped_path(&c, listed, answer);
+    meet(PATH_BY_SAMPLES, 1);
+    c.service = DRAW_PATH;
+    c.lent_len = right_length(&c);
+    lend_cube(&grid, c.lent_len);
+    memcpy(start, grid.got, grid.len);
+    if (!compare_drawing(&c, &drawn))
+        return 0;
+    mark_listed(listed, (size_t)answer, &c, start);
+    if (fault == NULL && (drawn != answer || memcmp(start, grid.got, grid.len) != 0))
+        fault = "the cells that are drawn are not those that are listed";
+    return fault == NULL || print_drawing(fault, &c, start);
 }
 
 /* Chosen counts, by other calls of the library */
@@ -1117,13 +1317,6 @@ static int flip_case(int patch) {
 static int flip_curve(void) { return flip_case(0); }
 static int flip_patch(void) { return flip_case(1); }
 
-static int reversed(const uint8_t *list, const uint8_t *back, size_t cells) {
-    for (size_t i = 0; i < cells; i++)
-        if (memcmp(list + 3 * i, back + 3 * (cells - 1 - i), 3) != 0)
-            return 0;
-    return 1;
-}
-
 /* The library's call on a record: what it answered, what it left in the grid or list, and its new cells. */
 struct called {
     int64_t answer;
@@ -1238,17 +1431,18 @@ static int draw_patch_flip(void) { return flip_of_object(DRAW, 1, 2000); }
 /* Two drawings into one grid */
 
 /* The different cells of the object compared last that are marked in other. */
-static size_t cells_shared(uint32_t side, uint8_t *other, size_t len) {
+static size_t cells_shared(const struct object_call *c, uint8_t *other, size_t len) {
     size_t before = unmarked_cells(other, len);
-    mark_cells(&samples, side, 0, OVER, other);
+    mark_cells(cells_of(c), c->side, 0, OVER, other);
     return unmarked_cells(other, len) - before;
 }
 
 /* first_cells holds a mark in each cell of the first drawing. */
 static void meet_second(const struct object_call *first, const struct object_call *second, uint8_t *first_cells) {
     uint32_t count = *number_at(new_cells.got), drawn = 3 * second->choice;
-    size_t cells = different_cells(&samples, second->side), marked = grid.len - unmarked_cells(first_cells, grid.len);
-    size_t shared = cells_shared(second->side, first_cells, grid.len);
+    size_t cells = different_cells(cells_of(second), second->side);
+    size_t marked = grid.len - unmarked_cells(first_cells, grid.len);
+    size_t shared = cells_shared(second, first_cells, grid.len);
     int on_part = 0 < count && 0 < shared && shared < marked;
     meet((enum met)(CURVE_OVER_CURVE + drawn), !first->patch && !second->patch && on_part && 2 * shared <= cells);
     meet((enum met)(CURVE_OVER_PATCH + drawn), first->patch && !second->patch && on_part);
@@ -1275,10 +1469,11 @@ static int drawn_again(struct object_call *c) {
     return 0;
 }
 
-/* A patch, or a curve, its count passed or chosen. */
+/* A patch, or a curve, its count passed or chosen, or a path. */
 static enum service random_drawing(int *patch) {
+    static const enum service of_curve[] = {DRAW, DRAW, DRAW_CHOSEN, DRAW_PATH};
     *patch = one_in(3);
-    return *patch || !one_in(4) ? DRAW : DRAW_CHOSEN;
+    return *patch ? DRAW : of_curve[below(4)];
 }
 
 /* Into an unmarked grid, or one that holds marks: an object, then the same or another one. */
@@ -1302,7 +1497,7 @@ static int two_drawings(void) {
     if (one_in(3))
         return drawn_again(&first);
     memset(first_cells, 0, grid.len);
-    mark_cells(&samples, first.side, 1, OVER, first_cells);
+    mark_cells(cells_of(&first), first.side, 1, OVER, first_cells);
     second.service = random_drawing(&second.patch);
     random_object(&second, record, 0, 0);
     lend_bytes(&points, record, second.points_len);
@@ -1370,8 +1565,7 @@ static uint8_t call_points[CALLS][64];
 static int call_accepted[CALLS];
 
 static void random_call(struct object_call *c, uint8_t *record, uint32_t side) {
-    c->patch = one_in(5);
-    c->service = c->patch || !one_in(4) ? DRAW : DRAW_CHOSEN;
+    c->service = random_drawing(&c->patch);
     c->side = one_in(20) ? random_side() : side;
     c->m = 0;
     random_object(c, record, 0, one_in(4) ? random_faults(ALL_FAULTS) : 0);
@@ -1415,7 +1609,7 @@ static int list_holds(int length, const uint8_t *start) {
     for (int k = 0; k < length; k++)
         if (call_accepted[k]) {
             exact_values(&calls[k], &samples);
-            explain(&samples, calls[k].side, calls[k].mark, grid.got, explained);
+            explain(&samples, &calls[k], grid.got, explained);
         }
     for (size_t p = 0; p < grid.len; p++)
         if (grid.got[p] != start[p] && !explained[p])
@@ -1426,7 +1620,7 @@ static int list_holds(int length, const uint8_t *start) {
 static int list_of_calls(void) {
     static uint8_t start[CELLS];
     uint32_t side = random_side();
-    int length = (int)below(CALLS + 1), accepted[2] = {0, 0}, curves[2] = {0, 0};
+    int length = (int)below(CALLS + 1), accepted[2] = {0, 0}, curves[2] = {0, 0}, paths[2] = {0, 0};
     size_t added = 0;
     const char *fault;
     lend_cube(&grid, (size_t)side * side * side);
@@ -1440,10 +1634,13 @@ static int list_of_calls(void) {
             accepted[calls[k].choice]++;
         if (call_accepted[k] && !calls[k].patch)
             curves[chooses(&calls[k])]++;
+        if (call_accepted[k])
+            paths[of_path(&calls[k])]++;
     }
     meet(LIST_OF_THREE, accepted[OVER] + accepted[UNDER] >= 3);
     meet(LIST_OF_BOTH, accepted[OVER] > 0 && accepted[UNDER] > 0);
     meet(LIST_OF_CHOSEN, curves[0] > 0 && curves[1] > 0);
+    meet(LIST_OF_PATHS, paths[0] > 0 && paths[1] > 0);
     if (added != unmarked_cells(start, grid.len) - unmarked_cells(grid.got, grid.len))
         return print_list("the new cells do not add up", length, start);
     return list_holds(length, start) || print_list("demand 3's first sentence does not hold", length, start);
@@ -1492,6 +1689,63 @@ static int known_curve(int k, int axis) {
 /* What side 8 has unmarked. */
 static const uint8_t UNMARKED[512];
 
+static const size_t STRIDE[3] = {1, 8, 64};
+
+/* One axis of a curve, the others 0, or for 3 all three alike. */
+static void lend_axes(const uint8_t g[4], int axis) {
+    uint8_t record[12];
+    for (int at = 0; at < 12; at++)
+        record[at] = at % 3 == axis || axis == 3 ? g[at / 3] : 0;
+    lend_bytes(&points, record, 12);
+}
+
+/* The sample on one axis, or for 3 on all three alike: the path has each cell that it comes to, on three axes from corner
+   to corner by x, y and z. */
+static int known_path(int k, int axis) {
+    struct object_call c = {LIST_PATH, 0, 8, KNOWN[k].n, 0, 9, OVER, NULL, 12, NULL, 0, NULL};
+    const char *cells = KNOWN[k].cells;
+    uint8_t listed[96], held[sizeof UNMARKED] = {0};
+    int64_t length = 0, answer;
+    if (cells == NULL || cells[0] == 0)
+        return 1;
+    for (size_t i = 0; cells[i] != 0; i++)
+        for (int a = 0; a < 3 && (a == 0 || i > 0); a++) {
+            uint8_t *to = listed + 3 * length;
+            if (i > 0 && (cells[i] == cells[i - 1] || (axis < 3 && axis != a)))
+                continue;
+            for (int b = 0; b < 3; b++)
+                to[b] = axis == b || axis == 3 ? (uint8_t)(cells[i - (b > a && i > 0)] - '0') : 0;
+            held[to[0] + STRIDE[1] * to[1] + STRIDE[2] * to[2]] = 9;
+            length++;
+        }
+    lend_axes(KNOWN[k].g, axis);
+    c.lent_len = 3 * (size_t)length;
+    lend(&grid, c.lent_len);
+    if (!compare_object(&c, &answer) || answer != length || memcmp(grid.got, listed, c.lent_len) != 0)
+        return known_failed(KNOWN[k].name);
+    c.lent_len--;
+    lend(&grid, c.lent_len);
+    if (!compare_object(&c, &answer) || answer != -GIDZKHALU_REFUSED_SHORT)
+        return known_failed(KNOWN[k].name);
+    c.service = DRAW_PATH;
+    c.lent_len = sizeof UNMARKED;
+    lend_bytes(&grid, UNMARKED, sizeof UNMARKED);
+    return (compare_object(&c, &answer) && answer == length && memcmp(grid.got, held, sizeof held) == 0) ||
+           known_failed(KNOWN[k].name);
+}
+
+/* One step that moves on the three axes, by hand. */
+static int known_corner(void) {
+    static const uint8_t record[12] = {4, 3, 6, 4, 3, 6, 4, 3, 6, 5, 2, 5};
+    static const uint8_t cells[12] = {4, 3, 6, 5, 3, 6, 5, 2, 6, 5, 2, 5};
+    struct object_call c = {LIST_PATH, 0, 8, 1, 0, 9, OVER, NULL, 12, NULL, sizeof cells, NULL};
+    int64_t answer;
+    lend_bytes(&points, record, sizeof record);
+    lend(&grid, c.lent_len);
+    return (compare_object(&c, &answer) && answer == 4 && memcmp(grid.got, cells, sizeof cells) == 0) ||
+           known_failed("of a path around a corner");
+}
+
 /* Drawn into an unmarked grid, over or under, each cell of the curve is new once; drawn again with another mark, none. */
 static int known_drawing(int k, int axis, uint32_t choice) {
     struct object_call c = {DRAW, 0, 8, KNOWN[k].n, 0, 9, choice, NULL, 12, NULL, sizeof UNMARKED, NULL};
@@ -1529,8 +1783,6 @@ static const struct {
               {7, GIDZKHALU_UNDER, {3, 5, 9, 1}, {3, 5, 9, 1}, 4, 0},
               {7, 2, {0, 5, 9, 0}, {0, 5, 9, 0}, -GIDZKHALU_REFUSED_CHOICE, 0}};
 
-static const size_t STRIDE[3] = {1, 8, 64};
-
 static int known_choice(size_t k, int axis, enum service service) {
     struct object_call c = {service, 0, 8, 3, 0, 0, OVER, NULL, 12, NULL, sizeof UNMARKED, NULL};
     uint8_t held[sizeof UNMARKED] = {0};
@@ -1547,14 +1799,6 @@ static int known_choice(size_t k, int axis, enum service service) {
         held[STRIDE[axis] * at] = PLACED[k].after[at];
     return (memcmp(grid.got, held, sizeof held) == 0 && (answer < 0 || *number_at(new_cells.got) == PLACED[k].count)) ||
            known_failed("K1, over or under");
-}
-
-/* One axis of a curve, the others 0, or for 3 all three alike. */
-static void lend_axes(const uint8_t g[4], int axis) {
-    uint8_t record[12];
-    for (int at = 0; at < 12; at++)
-        record[at] = at % 3 == axis || axis == 3 ? g[at / 3] : 0;
-    lend_bytes(&points, record, 12);
 }
 
 /* One axis of a curve of side 64, the others are 0, or all three alike: what a check answers. */
@@ -1817,6 +2061,10 @@ static int document_samples(void) {
         for (int axis = 0; axis < 3; axis++)
             good &= known_curve(k, axis) & known_drawing(k, axis, GIDZKHALU_OVER) &
                     known_drawing(k, axis, GIDZKHALU_UNDER);
+    for (int k = 0; k < (int)(sizeof KNOWN / sizeof *KNOWN); k++)
+        for (int axis = 0; axis <= 3; axis++)
+            good &= known_path(k, axis);
+    good &= known_corner();
     for (size_t k = 0; k < sizeof PLACED / sizeof *PLACED; k++)
         for (int axis = 0; axis < 3; axis++)
             good &= known_choice(k, axis, DRAW) & known_choice(k, axis, DRAW_CHOSEN);
@@ -1842,7 +2090,8 @@ static const int CHECK_ORDER[] = {51, 11, 13, 14, 15, 0}, LIST_ORDER[] = {51, 11
                  SIDE_LINE_ORDER[] = {21, 41, 42, 11, 43, 0},
                  CURVE_LINE_ORDER[] = {21, 44, 41, 42, 12, 13, 14, 15, 0}, TEXT_ORDER[] = {11, 21, 22, 0},
                  LINE_ORDER[] = {54, 22, 0}, RECORD_ORDER[] = {51, 55, 0}, OUT_ORDER[] = {53, 52, 0},
-                 BOTH_ORDER[] = {51, 11, 21, 12, 13, 14, 15, 0}, FLIP_ORDER[] = {51, 52, 0};
+                 BOTH_ORDER[] = {51, 11, 21, 12, 13, 14, 15, 0}, FLIP_ORDER[] = {51, 52, 0},
+                 PATH_ORDER[] = {51, 11, 13, 14, 15, 22, 0};
 
 static const struct kind {
     const char *name;
@@ -1857,6 +2106,9 @@ static const struct kind {
             {"choose steps", 2000000, choose_steps, {CHOOSE_ORDER, NULL}},
             {"draw chosen", 1000000, draw_chosen, {CHOSEN_ORDER, NULL}},
             {"chosen by checks", 500000, chosen_by_checks, {NULL, NULL}},
+            {"list path", 1000000, list_path, {PATH_ORDER, NULL}},
+            {"draw path", 1000000, draw_path, {DRAW_ORDER, NULL}},
+            {"path by samples", 200000, path_by_samples, {NULL, NULL}},
             {"check patch", 1000000, check_patch, {CHECK_ORDER, NULL}},
             {"draw patch", 1000000, draw_patch, {DRAW_ORDER, NULL}},
             {"flip curve", 500000, flip_curve, {FLIP_ORDER, NULL}},
@@ -1884,6 +2136,7 @@ static const struct kind {
             {"list of calls", 200000, list_of_calls, {DRAW_ORDER, NULL}},
             {"large curve", 100000, large_curve, {NULL, NULL}},
             {"large choice", 50000, large_choice, {NULL, NULL}},
+            {"large path", 20000, large_path, {NULL, NULL}},
             {"large patch", 3000, large_patch, {NULL, NULL}},
             {"large sheet", 5000, large_sheet, {NULL, NULL}},
             {"large listing", 1000, large_listing, {NULL, NULL}},
@@ -1977,6 +2230,12 @@ static int print_met(void) {
         printf("%9" PRIu64 " %s\n", met[k], MET_WORDS[k]);
     printf("\naccepted patches: %" PRIu64 " neighbours compared, %" PRIu64 " with cells more than one apart\n",
            met[NEIGHBOURS_T] + met[NEIGHBOURS_U], patch_neighbours_apart);
+    printf("steps of accepted paths, where x falls, stays and rises, in each line y so, and for each of these z so:");
+    for (int way = 0; way < WAYS; way++) {
+        printf("%s%" PRIu64, way % 9 == 0 ? "\n  " : " ", path_steps[way]);
+        good &= path_steps[way] > 0;
+    }
+    printf("\n");
     for (int k = 0; k < METS; k++)
         good &= met[k] > 0;
     for (int kind = 0; kind < KINDS; kind++)

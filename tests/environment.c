@@ -103,7 +103,7 @@ static int64_t object(enum environment e, enum service service, int patch) {
         random_chosen(&c, record, large, one_in(2) ? random_faults(CHOSEN_FAULTS) : 0);
     else
         random_object(&c, record, large, one_in(2) ? random_faults(ALL_FAULTS) : 0);
-    lend(service == LIST || draws(&c) ? c.lent_len : 0);
+    lend(lists(&c) || draws(&c) ? c.lent_len : 0);
     if (draws(&c))
         random_cube(now, c.lent_len);
     if (patch && service == CHECK)
@@ -121,6 +121,11 @@ static int64_t object(enum environment e, enum service service, int patch) {
               gidzkhalu_draw_chosen(c.side, record, c.points_len, c.mark, c.choice, now, c.lent_len, &new_cells));
     else if (service == LIST)
         UNDER(e, &answer, gidzkhalu_list_curve(c.side, record, c.points_len, c.n, now, c.lent_len));
+    else if (service == LIST_PATH)
+        UNDER(e, &answer, gidzkhalu_list_path(c.side, record, c.points_len, c.n, now, c.lent_len));
+    else if (service == DRAW_PATH)
+        UNDER(e, &answer,
+              gidzkhalu_draw_path(c.side, record, c.points_len, c.n, c.mark, c.choice, now, c.lent_len, &new_cells));
     else
         UNDER(e, &answer,
               gidzkhalu_draw_curve(c.side, record, c.points_len, c.n, c.mark, c.choice, now, c.lent_len, &new_cells));
@@ -153,6 +158,16 @@ static int64_t choose_steps(enum environment e, uint64_t number) {
 static int64_t draw_chosen(enum environment e, uint64_t number) {
     (void)number;
     return object(e, DRAW_CHOSEN, 0);
+}
+
+static int64_t list_path(enum environment e, uint64_t number) {
+    (void)number;
+    return object(e, LIST_PATH, 0);
+}
+
+static int64_t draw_path(enum environment e, uint64_t number) {
+    (void)number;
+    return object(e, DRAW_PATH, 0);
 }
 
 static int64_t check_patch(enum environment e, uint64_t number) {
@@ -321,6 +336,8 @@ static struct function {
     {"choose_steps", choose_steps, 50000, {0}, 0, 0, 0, {0}, {{0}}},
     {"draw_chosen", draw_chosen, 50000, {0}, 0, 0, 0, {0}, {{0}}},
     {"flip_curve", flip_curve, 20000, {0}, 0, 0, 0, {0}, {{0}}},
+    {"list_path", list_path, 50000, {0}, 0, 0, 0, {0}, {{0}}},
+    {"draw_path", draw_path, 50000, {0}, 0, 0, 0, {0}, {{0}}},
     {"check_patch", check_patch, 20000, {0}, 0, 0, 0, {0}, {{0}}},
     {"draw_patch", draw_patch, 20000, {0}, 0, 0, 0, {0}, {{0}}},
     {"flip_patch", flip_patch, 20000, {0}, 0, 0, 0, {0}, {{0}}},

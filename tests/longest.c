@@ -103,23 +103,32 @@ static void print_drawing(struct drawing drawing) {
            drawing.held == 0 ? "unmarked" : "marked");
 }
 
-/* service: 0 check, 1 list, 2 draw. */
-static void curve_of(int service, uint32_t steps, const uint8_t points[GIDZKHALU_CURVE_BYTES], struct drawing drawing) {
+enum service { CHECK, LIST, DRAW, LIST_PATH, DRAW_PATH };
+
+static int draws(enum service service) { return service == DRAW || service == DRAW_PATH; }
+
+/* A path's list has one byte fewer than the longest path of so many steps takes, so that its cells are counted. */
+static void curve_of(enum service service, uint32_t steps, const uint8_t points[GIDZKHALU_CURVE_BYTES],
+                     struct drawing drawing) {
     size_t len = GIDZKHALU_CURVE_BYTES;
     int64_t answer;
     fill_grid(drawing.held);
-    if (service == 0)
+    if (service == CHECK)
         answer = gidzkhalu_check_curve(SIDE, points, len, steps);
-    else if (service == 1)
+    else if (service == LIST)
         answer = gidzkhalu_list_curve(SIDE, points, len, steps, text, GIDZKHALU_LIST_BYTES(steps));
+    else if (service == LIST_PATH)
+        answer = gidzkhalu_list_path(SIDE, points, len, steps, text, GIDZKHALU_PATH_LIST_BYTES(steps) - 1);
+    else if (service == DRAW_PATH)
+        answer = gidzkhalu_draw_path(SIDE, points, len, steps, 255, drawing.choice, grid, sizeof grid, &new_cells);
     else
         answer = gidzkhalu_draw_curve(SIDE, points, len, steps, 255, drawing.choice, grid, sizeof grid, &new_cells);
     printf("%" PRId64 ": side %d, %" PRIu32 " steps, ", answer, SIDE, steps);
-    if (service == 2)
+    if (draws(service))
         print_drawing(drawing);
 }
 
-static void curve(int service, uint32_t steps, struct axes axes, struct drawing drawing) {
+static void curve(enum service service, uint32_t steps, struct axes axes, struct drawing drawing) {
     uint8_t points[GIDZKHALU_CURVE_BYTES];
     for (int k = 0; k < 4; k++)
         put_point(points + 3 * k, axes, k, SIDE - 1);
@@ -130,39 +139,65 @@ static void curve(int service, uint32_t steps, struct axes axes, struct drawing 
 /* 242 different cells. */
 static void winding_curve(struct drawing drawing) {
     static const uint8_t points[GIDZKHALU_CURVE_BYTES] = {63, 63, 63, 3, 2, 0, 0, 0, 4, 62, 61, 63};
-    curve_of(2, GIDZKHALU_CURVE_STEPS_MOST, points, drawing);
+    curve_of(DRAW, GIDZKHALU_CURVE_STEPS_MOST, points, drawing);
     printf("winds through many cells\n");
 }
 
 enum { WALKED_MOST = 3 * (SIDE - 1) - 1 };
 
 /* The latest long step that there is: the last of 187, on z. */
-static void late_curve(int service) {
+static void late_curve(enum service service) {
     static const uint8_t points[GIDZKHALU_CURVE_BYTES] = {0, 0, 0, 0, 0, 0, 0, 0, 0, 0, 0, SIDE - 1};
     curve_of(service, WALKED_MOST - 1, points, DRAWINGS[0]);
     printf("the last step on z is too long\n");
 }
 
 /* With the steps at which a call takes longest all combinations, with the others those of one pattern. */
-static void curves(int service) {
+static void curves(enum service service) {
     static const uint32_t steps[] = {WALKED_MOST, GIDZKHALU_CURVE_STEPS_MOST};
     for (int number = 0; number < COMBINATIONS; number++) {
         struct axes axes = axes_of(number);
         for (int most = 0; most < 2; most++)
-            for (size_t k = 0; k < (service == 2 ? SIZE(DRAWINGS) : 1); k++)
-                if (most == (service > 0) || (axes.x == axes.y && axes.x == axes.z))
+            for (size_t k = 0; k < (draws(service) ? SIZE(DRAWINGS) : 1); k++)
+                if (most == (service != CHECK) || (axes.x == axes.y && axes.x == axes.z))
                     curve(service, steps[most], axes, DRAWINGS[k]);
     }
     late_curve(service);
 }
 
-static void check_curves(void) { curves(0); }
-static void list_curves(void) { curves(1); }
+static void check_curves(void) { curves(CHECK); }
+static void list_curves(void) { curves(LIST); }
 
 static void draw_curves(void) {
-    curves(2);
+    curves(DRAW);
     for (size_t k = 0; k < SIZE(DRAWINGS); k++)
         winding_curve(DRAWINGS[k]);
+}
+
+/* Paths: as curves, with 512 steps, where the step test quits. Each move of a path takes longer, by the writing of a cell;
+   no curve of one axis has more than 94, and UP_AND_DOWN and DOWN_AND_UP have so many. A list that has not room for every
+   path is counted first, by a walk of its own. Under, a cell takes longer where it is new. In WINDING are paths that have
+   many moves and many different cells: 283 cells, 268 of them different, and 281 with 277, most of their moves down or up. */
+static const uint8_t WINDING[][GIDZKHALU_CURVE_BYTES] = {{63, 61, 63, 0, 0, 0, 2, 0, 0, 63, 63, 61},
+                                                         {4, 63, 63, 63, 0, 0, 63, 0, 0, 0, 61, 61},
+                                                         {61, 61, 0, 0, 0, 63, 0, 0, 63, 63, 63, 4}};
+
+static void winding_paths(enum service service, struct drawing drawing) {
+    for (size_t k = 0; k < SIZE(WINDING); k++) {
+        curve_of(service, GIDZKHALU_CURVE_STEPS_MOST, WINDING[k], drawing);
+        printf("winds through many cells, %zu\n", k);
+    }
+}
+
+static void list_paths(void) {
+    curves(LIST_PATH);
+    winding_paths(LIST_PATH, DRAWINGS[0]);
+}
+
+static void draw_paths(void) {
+    curves(DRAW_PATH);
+    for (size_t k = 0; k < SIZE(DRAWINGS); k++)
+        winding_paths(DRAW_PATH, DRAWINGS[k]);
 }
 
 /* Chosen counts: counts are tried upwards from the distance of the ends. The axes are asked in turn, each from the count
@@ -492,6 +527,8 @@ static const struct {
                  {"gidzkhalu_choose_steps", choose_steps},
                  {"gidzkhalu_draw_chosen", draw_chosen},
                  {"gidzkhalu_flip_curve", flip_curves},
+                 {"gidzkhalu_list_path", list_paths},
+                 {"gidzkhalu_draw_path", draw_paths},
                  {"gidzkhalu_check_patch", check_patches},
                  {"gidzkhalu_draw_patch", draw_patches},
                  {"gidzkhalu_flip_patch", flip_patches},

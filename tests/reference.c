@@ -28,9 +28,15 @@ static size_t place(uint32_t side, int32_t x, int32_t y, int32_t z) {
     return (size_t)x + (size_t)side * (size_t)y + (size_t)side * side * (size_t)z;
 }
 
-int draws(const struct object_call *c) { return c->service == DRAW || c->service == DRAW_CHOSEN; }
+int lists(const struct object_call *c) { return c->service == LIST || c->service == LIST_PATH; }
+
+int draws(const struct object_call *c) {
+    return c->service == DRAW || c->service == DRAW_CHOSEN || c->service == DRAW_PATH;
+}
 
 int chooses(const struct object_call *c) { return c->service == CHOOSE || c->service == DRAW_CHOSEN; }
+
+int of_path(const struct object_call *c) { return c->service == LIST_PATH || c->service == DRAW_PATH; }
 
 /* Exact samples */
 
@@ -161,6 +167,43 @@ static void take_cells(struct samples *s) {
             s->cell[axis][at] = owner(s->value[axis][at], s->scale);
 }
 
+/* Paths */
+
+static size_t cells_of_path(const struct samples *s) {
+    wide length = 1;
+    for (int axis = 0; axis < 3; axis++)
+        for (size_t at = 1; at < s->along; at++)
+            length += distance(s->cell[axis][at - 1], s->cell[axis][at]);
+    return (size_t)length;
+}
+
+size_t path_length(const struct object_call *c) {
+    static struct samples samples;
+    exact_values(c, &samples);
+    take_cells(&samples);
+    return cells_of_path(&samples);
+}
+
+static void add_to_path(struct samples *path, const int32_t cell[3]) {
+    for (int axis = 0; axis < 3; axis++)
+        path->cell[axis][path->along] = cell[axis];
+    path->along++;
+}
+
+/* From the cell reached, x goes to that of the next sample, then y, then z, and each move adds the cell it comes to. */
+static void take_path(const struct samples *s, struct samples *path) {
+    int32_t reached[3] = {s->cell[0][0], s->cell[1][0], s->cell[2][0]};
+    path->along = 0;
+    path->rows = 1;
+    add_to_path(path, reached);
+    for (size_t at = 1; at < s->along; at++)
+        for (int axis = 0; axis < 3; axis++)
+            while (reached[axis] != s->cell[axis][at]) {
+                reached[axis] += reached[axis] < s->cell[axis][at] ? 1 : -1;
+                add_to_path(path, reached);
+            }
+}
+
 /* Sample 0 has none, and its value, a coordinate, lies on no half. */
 static size_t sample_before(const struct samples *s, size_t at) {
     return at % s->along != 0 ? at - 1 : at - s->along;
@@ -227,6 +270,14 @@ static int steps_too_long(const struct object_call *c, const struct order *order
     return longest_step(s) > s->scale;
 }
 
+/* Shorter than 3 bytes for each cell of the path, or, where another number applies, for one cell. */
+static int path_list_short(const struct object_call *c, const struct order *order, struct samples *s) {
+    if (order_first(order) != 0)
+        return c->lent_len < 3;
+    take_cells(s);
+    return c->lent_len < 3 * cells_of_path(s);
+}
+
 static void object_order(const struct object_call *c, struct order *order, struct samples *s) {
     int wrong_record = c->points_len != (c->patch ? 48 : 12);
     order_add(order, 51, wrong_record);
@@ -244,6 +295,8 @@ static void object_order(const struct object_call *c, struct order *order, struc
     order_add(order, 14, !wrong_record && coordinate_outside(c));
     if (!chooses(c))
         order_add(order, 15, !wrong_record && steps_too_long(c, order, s));
+    if (c->service == LIST_PATH)
+        order_add(order, 22, path_list_short(c, order, s));
 }
 
 static void list_cells(const struct samples *s, uint8_t *list) {
@@ -293,7 +346,8 @@ static void draw(const struct object_call *c, const struct samples *s) {
     *c->new_cells = (uint32_t)(before - after);
 }
 
-int64_t reference_object(const struct object_call *c, struct order *order, struct samples *s) {
+int64_t reference_object(const struct object_call *c, struct order *order, struct samples *s, struct samples *path) {
+    const struct samples *cells = of_path(c) ? path : s;
     object_order(c, order, s);
     if (order_first(order) != 0)
         return -order_first(order);
@@ -307,11 +361,13 @@ int64_t reference_object(const struct object_call *c, struct order *order, struc
         return c->patch ? 0 : test_quits(c);
     if (c->service == CHOOSE)
         return (int64_t)s->along - 1;
-    if (c->service == LIST)
-        list_cells(s, c->lent);
+    if (of_path(c))
+        take_path(s, path);
+    if (lists(c))
+        list_cells(cells, c->lent);
     else
-        draw(c, s);
-    return (int64_t)(s->along * s->rows);
+        draw(c, cells);
+    return (int64_t)(cells->along * cells->rows);
 }
 
 /* Flips */
@@ -392,8 +448,13 @@ int meets_gap(const struct samples *s, uint32_t side, const uint8_t *grid) {
 
 /* Demand 3 */
 
+/* At most so many halves of a cell. */
+static int within_halves(wide halves, wide value, wide scale, int32_t coordinate) {
+    return 2 * distance(value, coordinate * scale) <= halves * scale;
+}
+
 static int within_half(wide value, wide scale, int32_t coordinate) {
-    return 2 * distance(value, coordinate * scale) <= scale;
+    return within_halves(1, value, scale, coordinate);
 }
 
 static int sample_within(const struct samples *s, size_t at, uint32_t side) {
@@ -422,6 +483,43 @@ int samples_hold(const struct samples *s, const struct object_call *c, const uin
     return neighbours.apart == 0;
 }
 
+int path_holds(const struct samples *path, const struct object_call *c, const uint8_t *before, const uint8_t *after) {
+    for (size_t at = 0; at < path->along; at++) {
+        size_t p = place_of(path, at, c->side);
+        if (!cell_holds(c, before[p], after[p]))
+            return 0;
+    }
+    return 1;
+}
+
+static wide cells_between(const struct samples *a, size_t at, const struct samples *b, size_t bt) {
+    wide far = 0;
+    for (int axis = 0; axis < 3; axis++)
+        far += distance(a->cell[axis][at], b->cell[axis][bt]);
+    return far;
+}
+
+static int near_sample(const struct samples *s, size_t at, const struct samples *path, size_t on) {
+    for (int axis = 0; axis < 3; axis++)
+        if (!within_halves(3, s->value[axis][at], s->scale, path->cell[axis][on]))
+            return 0;
+    return 1;
+}
+
+/* on: how far along the path the last sample's cell was. */
+int path_leads(const struct samples *s, const struct samples *path) {
+    size_t on = 0;
+    if (cells_between(s, 0, path, 0) != 0)
+        return 0;
+    for (size_t at = 1; at < s->along; at++)
+        while (cells_between(s, at, path, on) != 0) {
+            on++;
+            if (on == path->along || cells_between(path, on - 1, path, on) != 1 || !near_sample(s, at - 1, path, on))
+                return 0;
+        }
+    return on + 1 == path->along;
+}
+
 /* With the samples' cells put back, the grid is the one before. */
 int others_kept(const struct samples *s, const struct object_call *c, const uint8_t *before, const uint8_t *after) {
     static uint8_t put_back[64 * 64 * 64];
@@ -444,27 +542,27 @@ int marks_kept(const uint8_t *before, const uint8_t *after, size_t len) {
     return !changed;
 }
 
-/* The one or two coordinates within half a cell of a value; answers their number. */
-static int near_coordinates(wide value, wide scale, uint32_t side, int32_t near[2]) {
+/* The coordinates within so many halves, 1 or 3, of a value, at most four; answers their number. */
+static int near_coordinates(wide halves, wide value, wide scale, uint32_t side, int32_t near[4]) {
     int found = 0;
     int32_t below = (int32_t)(value / scale);
-    for (int32_t c = below; c <= below + 1; c++)
-        if (c < (int32_t)side && within_half(value, scale, c))
+    for (int32_t c = below > 0 ? below - 1 : 0; c <= below + 2; c++)
+        if (c < (int32_t)side && within_halves(halves, value, scale, c))
             near[found++] = c;
     return found;
 }
 
-void explain(const struct samples *s, uint32_t side, uint8_t mark, const uint8_t *grid, uint8_t *explained) {
+void explain(const struct samples *s, const struct object_call *call, const uint8_t *grid, uint8_t *explained) {
     for (size_t at = 0; at < s->along * s->rows; at++) {
-        int32_t near[3][2];
+        int32_t near[3][4];
         int found[3];
         for (int axis = 0; axis < 3; axis++)
-            found[axis] = near_coordinates(s->value[axis][at], s->scale, side, near[axis]);
+            found[axis] = near_coordinates(of_path(call) ? 3 : 1, s->value[axis][at], s->scale, call->side, near[axis]);
         for (int a = 0; a < found[0]; a++)
             for (int b = 0; b < found[1]; b++)
                 for (int c = 0; c < found[2]; c++) {
-                    size_t p = place(side, near[0][a], near[1][b], near[2][c]);
-                    if (grid[p] == mark)
+                    size_t p = place(call->side, near[0][a], near[1][b], near[2][c]);
+                    if (grid[p] == call->mark)
                         explained[p] = 1;
                 }
     }
@@ -781,7 +879,7 @@ static void draw_stroke(const uint32_t *number, const uint8_t *points, struct dr
                                 OVER, points, 12,      d->cube,   0, &new_cells};
     struct order unused = {0};
     curve.lent_len = (size_t)volume(d->side);
-    reference_object(&curve, &unused, &samples);
+    reference_object(&curve, &unused, &samples, NULL);
     d->new_cells += new_cells;
     d->strokes.cells += different_cells(&samples, d->side);
     d->strokes.without_new += new_cells == 0;

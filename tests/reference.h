@@ -22,8 +22,8 @@ void order_add(struct order *order, int number, int applies);
 int order_first(const struct order *order);
 
 /* A call that checks, lists or draws a curve or a patch, or chooses the step count of a curve, or draws a curve with that
-   count. A drawing goes over what is marked, or under it. */
-enum service { CHECK, LIST, DRAW, CHOOSE, DRAW_CHOSEN };
+   count, or lists or draws the path of a curve. A drawing goes over what is marked, or under it. */
+enum service { CHECK, LIST, DRAW, CHOOSE, DRAW_CHOSEN, LIST_PATH, DRAW_PATH };
 enum choice { OVER, UNDER };
 
 struct object_call {
@@ -39,9 +39,11 @@ struct object_call {
     uint32_t *new_cells; /* of a drawing */
 };
 
-/* Whether the call draws, and whether it chooses its count. */
+/* Whether the call lists, whether it draws, whether it chooses its count, and whether it is of a path. */
+int lists(const struct object_call *call);
 int draws(const struct object_call *call);
 int chooses(const struct object_call *call);
+int of_path(const struct object_call *call);
 
 /* The exact values of an object, times scale, and its cells: row j's sample i is at (n + 1) j + i. */
 enum { SAMPLES = 257 * 257 };
@@ -72,10 +74,17 @@ uint32_t smallest_count(const struct object_call *call);
    where a row begins. */
 void count_ties(const struct samples *samples, uint64_t *rising, uint64_t *falling, uint64_t *beside);
 
-/* An accepted call leaves the object's values and cells in samples, those of the chosen count where the call chooses it. A
-   check of a curve answers 1 where the test quits and 0 where not; 15 is found from the exact samples in any case. The new
-   cells of a drawing are the unmarked cells of the whole grid before it minus those after it. */
-int64_t reference_object(const struct object_call *call, struct order *order, struct samples *samples);
+/* The number of cells of a curve's path: 1 and, for each step, how far the cell moves on each axis. Points of 12 bytes and
+   from 1 to 800 steps must be there; the steps may be too long. */
+size_t path_length(const struct object_call *call);
+
+/* An accepted call leaves the object's values and cells in samples, those of the chosen count where the call chooses it,
+   and the cells of a path, without values, in path, as if each were a sample's. A check of a curve answers 1 where the test
+   quits and 0 where not; 15 is found from the exact samples in any case. The new cells of a drawing are the unmarked cells
+   of the whole grid before it minus those after it. Behind another number, 22 of a path is a list without room for one
+   cell. */
+int64_t reference_object(const struct object_call *call, struct order *order, struct samples *samples,
+                         struct samples *path);
 
 /* The points of a curve's flip, in reverse order, and of a patch's flip, its i and j exchanged, with its counts. */
 int64_t reference_flip_curve(const uint8_t *points, size_t points_len, uint8_t *flipped, size_t flipped_len,
@@ -116,13 +125,20 @@ void count_neighbours(const struct samples *samples, struct neighbours *neighbou
 int samples_hold(const struct samples *samples, const struct object_call *call, const uint8_t *before,
                  const uint8_t *after);
 
+/* The same of each cell of a path, and whether the path is face to face: it begins in the cell of sample 0, neighbours
+   differ by one on one axis, it comes to the cells of the samples in turn and ends with the last, and each cell between is
+   within one and a half of the sample before it on every axis. */
+int path_holds(const struct samples *path, const struct object_call *call, const uint8_t *before, const uint8_t *after);
+int path_leads(const struct samples *samples, const struct samples *path);
+
 /* Whether no cell has changed but those of samples, and whether each marked cell holds what it held. */
 int others_kept(const struct samples *samples, const struct object_call *call, const uint8_t *before,
                 const uint8_t *after);
 int marks_kept(const uint8_t *before, const uint8_t *after, size_t len);
 
-/* Demand 3, first sentence: sets explained at each place that holds the mark within half a cell of a sample. */
-void explain(const struct samples *samples, uint32_t side, uint8_t mark, const uint8_t *grid, uint8_t *explained);
+/* Demand 3, first sentence: sets explained at each place that holds the mark within half a cell of a sample, or for a path
+   within one and a half. */
+void explain(const struct samples *samples, const struct object_call *call, const uint8_t *grid, uint8_t *explained);
 
 /* A swatch: kind 0 has red, green, blue, kind 1 a grey in number[0], kind 2 hue, saturation, value; the numbers are bit
    patterns. */

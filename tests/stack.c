@@ -6,7 +6,7 @@
    instruction down to the lowest byte that changed: the return address, the frame, the callees, and what is written
    below the stack pointer. Room that is reserved below that byte and never written does not show. Not counted are the
    arguments that the caller puts on the stack, which lie above: 8 bytes for list_part, 16 for draw_chosen, 24 for
-   draw_curve, 32 for draw_patch. Of memset, which is all that the library takes from outside, the return address is
+   draw_curve and draw_path, 32 for draw_patch. Of memset, which is all that the library takes from outside, the return address is
    counted: the memset of this file takes no more. A call that needs more than the painted room ends the run by a signal.
    For x86-64 and Linux alone. */
 #define _DEFAULT_SOURCE
@@ -141,6 +141,8 @@ enum function {
     CHOOSE_STEPS,
     DRAW_WITH_CHOSEN,
     FLIP_CURVE,
+    LISTED_PATH,
+    DRAWN_PATH,
     CHECK_PATCH,
     DRAW_PATCH,
     FLIP_PATCH,
@@ -169,6 +171,8 @@ static struct figure {
     {"choose_steps", {0, 51, 11, 14}, -1, 0, 0, {0}, 0, ""},
     {"draw_chosen", {0, 51, 55, 11, 21, 12, 14}, -1, 0, 0, {0}, 0, ""},
     {"flip_curve", {0, 51, 52}, -1, 0, 0, {0}, 0, ""},
+    {"list_path", {0, 51, 11, 13, 14, 15, 22}, -1, 0, 0, {0}, 0, ""},
+    {"draw_path", {0, 51, 55, 11, 21, 12, 13, 14, 15}, -1, 0, 0, {0}, 0, ""},
     {"check_patch", {0, 51, 11, 13, 14, 15}, -1, 0, 0, {0}, 0, ""},
     {"draw_patch", {0, 51, 55, 11, 21, 12, 13, 14, 15}, -1, 0, 0, {0}, 0, ""},
     {"flip_patch", {0, 51, 52}, -1, 0, 0, {0}, 0, ""},
@@ -257,6 +261,17 @@ static void measure_object(const struct object_call *c) {
         struct call call = {(uint64_t)gidzkhalu_list_curve, {side, p, len, n, g, g_len}, {0}};
         measure(LIST_CURVE, gidzkhalu_list_curve(c->side, c->points, len, c->n, c->lent, g_len), &call,
                 "side %" PRIu32 ", n %" PRIu32, c->side, c->n);
+    } else if (c->service == LIST_PATH) {
+        struct call call = {(uint64_t)gidzkhalu_list_path, {side, p, len, n, g, g_len}, {0}};
+        measure(LISTED_PATH, gidzkhalu_list_path(c->side, c->points, len, c->n, c->lent, g_len), &call,
+                "side %" PRIu32 ", n %" PRIu32 ", list of %zu bytes", c->side, c->n, c->lent_len);
+    } else if (c->service == DRAW_PATH) {
+        struct call call = {(uint64_t)gidzkhalu_draw_path,
+                            {side, p, len, n, c->mark, choice, g, g_len, PLACE(&new_cells)},
+                            {0}};
+        measure(DRAWN_PATH,
+                gidzkhalu_draw_path(c->side, c->points, len, c->n, c->mark, c->choice, c->lent, g_len, &new_cells),
+                &call, "side %" PRIu32 ", n %" PRIu32 ", mark %d, choice %" PRIu32, c->side, c->n, c->mark, c->choice);
     } else if (c->service == CHOOSE) {
         struct call call = {(uint64_t)gidzkhalu_choose_steps, {side, p, len}, {0}};
         int64_t answer = gidzkhalu_choose_steps(c->side, c->points, len);
@@ -364,9 +379,15 @@ static void chosen_object(struct object_call *c, uint8_t *points, enum pattern p
     c->lent = grid;
     if (c->service == LIST)
         c->lent_len = GIDZKHALU_LIST_BYTES(c->n > 512 ? 512 : c->n);
+    else if (c->service == LIST_PATH)
+        c->lent_len = GIDZKHALU_PATH_LIST_BYTES(c->n > 512 ? 512 : c->n);
     else
         c->lent_len = c->side > 64 ? CELLS : (size_t)c->side * c->side * c->side;
     measure_with_faults(c);
+    if (c->service == LIST_PATH && 1 <= c->n && c->n <= 512) { /* and a list that its cells fill */
+        c->lent_len = GIDZKHALU_CELL_BYTES * path_length(c);
+        measure_with_faults(c);
+    }
 }
 
 /* A call that chooses its count is made once for all counts. */
@@ -428,6 +449,8 @@ static void chosen_list_curves(void) { chosen_objects(LIST, 0); }
 static void chosen_draw_curves(void) { chosen_objects(DRAW, 0); }
 static void chosen_choose_steps(void) { chosen_choices(CHOOSE); }
 static void chosen_draws_with_chosen(void) { chosen_choices(DRAW_CHOSEN); }
+static void chosen_list_paths(void) { chosen_objects(LIST_PATH, 0); }
+static void chosen_draw_paths(void) { chosen_objects(DRAW_PATH, 0); }
 static void chosen_check_patches(void) { chosen_objects(CHECK, 1); }
 static void chosen_draw_patches(void) { chosen_objects(DRAW, 1); }
 
@@ -436,6 +459,8 @@ static void random_list_curve(void) { random_object_call(LIST, 0); }
 static void random_draw_curve(void) { random_object_call(DRAW, 0); }
 static void random_choose_steps(void) { random_choice_call(CHOOSE); }
 static void random_draw_with_chosen(void) { random_choice_call(DRAW_CHOSEN); }
+static void random_list_path(void) { random_object_call(LIST_PATH, 0); }
+static void random_draw_path(void) { random_object_call(DRAW_PATH, 0); }
 static void random_check_patch(void) { random_object_call(CHECK, 1); }
 static void random_draw_patch(void) { random_object_call(DRAW, 1); }
 
@@ -785,16 +810,16 @@ static void random_refusal_line(void) {
 enum { RANDOM_CALLS = 5000 };
 
 static void (*const CHOSEN[FUNCTIONS])(void) = {
-    chosen_check_curves,      chosen_list_curves, chosen_draw_curves,   chosen_choose_steps,
-    chosen_draws_with_chosen, chosen_flip_curves, chosen_check_patches, chosen_draw_patches,
-    chosen_flip_patches,      chosen_to_cells,    chosen_half_ways,     chosen_sheets,
-    chosen_parts,             chosen_totals,      chosen_lines};
+    chosen_check_curves, chosen_list_curves, chosen_draw_curves, chosen_choose_steps,  chosen_draws_with_chosen,
+    chosen_flip_curves,  chosen_list_paths,  chosen_draw_paths,  chosen_check_patches, chosen_draw_patches,
+    chosen_flip_patches, chosen_to_cells,    chosen_half_ways,   chosen_sheets,        chosen_parts,
+    chosen_totals,       chosen_lines};
 
 static void (*const RANDOM[FUNCTIONS])(void) = {
-    random_check_curve,      random_list_curve, random_draw_curve,  random_choose_steps,
-    random_draw_with_chosen, random_flip_curve, random_check_patch, random_draw_patch,
-    random_flip_patch,       random_to_cell,    random_half_way,    random_draw_sheet,
-    random_list_part,        random_totals,     random_refusal_line};
+    random_check_curve, random_list_curve, random_draw_curve, random_choose_steps, random_draw_with_chosen,
+    random_flip_curve,  random_list_path,  random_draw_path,  random_check_patch,  random_draw_patch,
+    random_flip_patch,  random_to_cell,    random_half_way,   random_draw_sheet,   random_list_part,
+    random_totals,      random_refusal_line};
 
 static void run(void) {
     start_run(1);
