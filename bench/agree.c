@@ -47,6 +47,16 @@ static answer call_draw_curve(const struct box *box, uint8_t *lent)
     return box->draw_curve(in.side, in.points, in.points_len, in.n, in.mark, in.choice, lent, in.lent_len, &new_cells);
 }
 
+static answer call_list_path(const struct box *box, uint8_t *lent)
+{
+    return box->list_path(in.side, in.points, in.points_len, in.n, lent, in.lent_len);
+}
+
+static answer call_draw_path(const struct box *box, uint8_t *lent)
+{
+    return box->draw_path(in.side, in.points, in.points_len, in.n, in.mark, in.choice, lent, in.lent_len, &new_cells);
+}
+
 static answer call_choose_steps(const struct box *box, uint8_t *lent)
 {
     (void)lent;
@@ -206,14 +216,29 @@ static void agree_on_check(answer known)
     }
 }
 
+/* With room for the longest path, with as much as this one takes, and with one byte less. */
+static void agree_on_path_lists(void)
+{
+    in.lent_len = 3 * (3 * STEPS + 1);
+    answer cells = agree("list_path", call_list_path, in.lent_len + 1);
+    if (cells < 0)
+        return;
+    for (size_t less = 0; less < 2; less++) {
+        in.lent_len = 3 * (size_t)cells - less;
+        agree("list_path", call_list_path, 3 * (size_t)cells + 1);
+    }
+}
+
 static void agree_on_curve(int s, int k)
 {
     take_curve(s, k);
     agree_on_check(strokes[s].check);
+    agree_on_path_lists();
     in.lent_len = 3 * (STEPS + 1);
     agree("list_curve", call_list_curve, in.lent_len + 1);
     in.lent_len = CELLS;
     agree_on_choices("draw_curve", call_draw_curve);
+    agree_on_choices("draw_path", call_draw_path);
     in.lent_len = 12;
     agree("flip_curve", call_flip_curve, 13);
 }
@@ -381,11 +406,14 @@ static void some_record(int points, uint32_t most)
 static void agree_on_record(void)
 {
     agree("draw_curve", call_draw_curve, ROOM);
+    agree("draw_path", call_draw_path, ROOM);
     agree("draw_chosen", call_draw_chosen, ROOM);
     agree("choose_steps", call_choose_steps, 0);
     agree("check_curve", call_check_curve, 0);
     in.lent_len = 3 * (size_t)in.n + random_below(4);
     agree("list_curve", call_list_curve, 3 * 600);
+    in.lent_len = random_below(rarely(2) ? 60 : 9 * in.n + 9);
+    agree("list_path", call_list_path, 9 * 600);
     in.lent_len = rarely(20) ? 11 + random_below(3) : 12;
     agree("flip_curve", call_flip_curve, 16);
 }
@@ -609,6 +637,19 @@ static void wrong_curves_under(void)
     say_wrong("curves, n = 512, under: cells marked or left", count, of);
 }
 
+static void wrong_paths(void)
+{
+    size_t count = 0, of = 0;
+    in.choice = OVER;
+    for (int k = 0; k < CURVES; k++) {
+        take_curve(BOXED_512, k);
+        in.lent_len = CELLS;
+        of += both(call_draw_path, zeros, CELLS);
+        count += wrong(CELLS, 1);
+    }
+    say_wrong("paths, n = 512: cells marked or left", count, of);
+}
+
 /* A count is wrong that is accepted and not the smallest. */
 static void wrong_counts(int set, const char *what)
 {
@@ -677,6 +718,7 @@ void count_wrong_cells(void)
     printf("| (c) gets wrong | wrong | of |\n|---|---|---|\n");
     wrong_curves();
     wrong_curves_under();
+    wrong_paths();
     wrong_counts(SMALL, "chosen counts, side 8: not the smallest");
     wrong_counts(LARGE, "chosen counts, side 64: not the smallest");
     wrong_patches(0, OVER, "patches, 64 × 64: cells marked or left");

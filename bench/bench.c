@@ -39,7 +39,7 @@ enum {
     MOST = 1 << 15
 };
 
-static uint8_t grid[CELLS], list[3 * (STEPS + 1)], buffer[SHEET_CELLS], text[21 * (PART + 1) + 1];
+static uint8_t grid[CELLS], list[3 * (3 * STEPS + 1)], buffer[SHEET_CELLS], text[21 * (PART + 1) + 1];
 static uint8_t cubes[2][SHEETS][SHEET_CELLS];
 static uint32_t marked[2]; /* cells of all cubes of a set */
 
@@ -143,6 +143,65 @@ static size_t list_curves(const struct box *box, int s)
 static size_t list_short(const struct box *box, int s)
 {
     return list_strokes(box, s, times_over);
+}
+
+static size_t draw_paths_of(const struct box *box, int s, int way, int times)
+{
+    uint32_t n = strokes[s].steps, new_cells;
+    if (!box->draw_path)
+        return 0;
+    for (int k = 0; k < times * CURVES; k++) {
+        const uint8_t *points = curves[strokes[s].set][k % CURVES];
+        prepare_grid(way, k, 16);
+        total += box->draw_path(SIDE, points, 12, n, 1, choice_of(way), grid, CELLS, &new_cells);
+    }
+    return (size_t)times * CURVES;
+}
+
+/* less: bytes fewer than the longest path takes. */
+static size_t list_paths_of(const struct box *box, int s, size_t less, int times)
+{
+    uint32_t n = strokes[s].steps;
+    if (!box->list_path)
+        return 0;
+    for (int k = 0; k < times * CURVES; k++)
+        total += box->list_path(SIDE, curves[strokes[s].set][k % CURVES], 12, n, list, 3 * (3 * (size_t)n + 1) - less);
+    return (size_t)times * CURVES;
+}
+
+static size_t draw_paths(const struct box *box, int way)
+{
+    return draw_paths_of(box, BOXED_512, way, 1) * (STEPS + 1);
+}
+
+static size_t draw_path_over(const struct box *box, int s)
+{
+    return draw_paths_of(box, s, OVER_MARKED, 1) * (strokes[s].steps + 1);
+}
+
+static size_t draw_path_under(const struct box *box, int s)
+{
+    return draw_paths_of(box, s, UNDER_UNMARKED, 1) * (strokes[s].steps + 1);
+}
+
+static size_t draw_path_short(const struct box *box, int s)
+{
+    return draw_paths_of(box, s, OVER_MARKED, times_over);
+}
+
+static size_t list_paths(const struct box *box, int s)
+{
+    return list_paths_of(box, s, 0, 1) * (strokes[s].steps + 1);
+}
+
+static size_t list_paths_counted(const struct box *box, int s)
+{
+    return list_paths_of(box, s, 1, 1) * (strokes[s].steps + 1);
+}
+
+static size_t list_path_short(const struct box *box, int s)
+{
+    return list_paths_of(box, s, 0, times_over);
 }
 
 /* A run over a set of polygons makes as many calls for each set. */
@@ -346,6 +405,20 @@ static const struct row {
     {"choose the steps of the slowest polygon", "call", "choose_steps", choose_counts, SLOWEST, 4},
     {"draw it with the chosen count over", "call", "draw_chosen", draw_with_chosen, SLOWEST, 4},
     {"flip a curve", "call", "flip_curve", flip_curves, BOXED, 4},
+    {"draw the path of a curve, n = 512, side 64, over, cells unmarked", "sample", "draw_path", draw_paths, OVER_UNMARKED,
+     4},
+    {"draw it over, cells marked", "sample", "draw_path", draw_paths, OVER_MARKED, 4},
+    {"draw it under, cells unmarked", "sample", "draw_path", draw_paths, UNDER_UNMARKED, 4},
+    {"draw it under, cells marked", "sample", "draw_path", draw_paths, UNDER_MARKED, 4},
+    {"list it, room for every path", "sample", "list_path", list_paths, BOXED_512, 4},
+    {"list it, counted first", "sample", "list_path", list_paths_counted, BOXED_512, 4},
+    {"draw the path, gaps up to 63, n = 188, over, walks", "sample", "draw_path", draw_path_over, CROSSING_188, 4},
+    {"draw it over, n = 189, quits", "sample", "draw_path", draw_path_over, CROSSING_189, 4},
+    {"draw it under, cells unmarked, n = 189, quits", "sample", "draw_path", draw_path_under, CROSSING_189, 4},
+    {"list it, n = 189, room for every path", "sample", "list_path", list_paths, CROSSING_189, 4},
+    {"list it, n = 189, counted first", "sample", "list_path", list_paths_counted, CROSSING_189, 4},
+    {"draw the path, gaps up to 1, n = 3, over, quits", "call", "draw_path", draw_path_short, CLOSE_3, 4},
+    {"list it, n = 1, room for every path, walks", "call", "list_path", list_path_short, CLOSE_1, 4},
     {"draw a patch, 64 × 64, side 64, over, cells unmarked", "sample", "draw_patch", small_patches, OVER_UNMARKED, 4},
     {"draw it over, cells marked", "sample", "draw_patch", small_patches, OVER_MARKED, 4},
     {"draw it under, cells unmarked", "sample", "draw_patch", small_patches, UNDER_UNMARKED, 4},

@@ -24,6 +24,8 @@ typedef answer choose_steps_fn(uint32_t side, const uint8_t *points, size_t poin
 typedef answer draw_chosen_fn(uint32_t side, const uint8_t *points, size_t points_len, uint8_t mark, uint32_t choice,
                               uint8_t *grid, size_t grid_len, uint32_t *new_cells);
 typedef answer flip_curve_fn(const uint8_t *points, size_t points_len, uint8_t *flipped, size_t flipped_len);
+typedef list_curve_fn list_path_fn;
+typedef draw_curve_fn draw_path_fn;
 typedef answer check_patch_fn(uint32_t side, const uint8_t *points, size_t points_len, uint32_t n, uint32_t m);
 typedef answer draw_patch_fn(uint32_t side, const uint8_t *points, size_t points_len, uint32_t n, uint32_t m,
                              uint8_t mark, uint32_t choice, uint8_t *grid, size_t grid_len, uint32_t *new_cells);
@@ -47,6 +49,8 @@ struct box {
     choose_steps_fn *choose_steps;
     draw_chosen_fn *draw_chosen;
     flip_curve_fn *flip_curve;
+    list_path_fn *list_path;
+    draw_path_fn *draw_path;
     check_patch_fn *check_patch;
     draw_patch_fn *draw_patch;
     flip_patch_fn *flip_patch;
@@ -65,6 +69,8 @@ struct box {
     choose_steps_fn prefix##_choose_steps; \
     draw_chosen_fn prefix##_draw_chosen;   \
     flip_curve_fn prefix##_flip_curve;     \
+    list_path_fn prefix##_list_path;       \
+    draw_path_fn prefix##_draw_path;       \
     check_patch_fn prefix##_check_patch;   \
     draw_patch_fn prefix##_draw_patch;     \
     flip_patch_fn prefix##_flip_patch;     \
@@ -78,9 +84,9 @@ struct box {
 #define BOX(prefix)                                                                                           \
     {                                                                                                         \
         #prefix, prefix##_check_curve, prefix##_list_curve, prefix##_draw_curve, prefix##_choose_steps,       \
-            prefix##_draw_chosen, prefix##_flip_curve, prefix##_check_patch, prefix##_draw_patch,             \
-            prefix##_flip_patch, prefix##_to_cell, prefix##_half_way, prefix##_draw_sheet, prefix##_list_part, \
-            prefix##_totals, prefix##_refusal_line                                                            \
+            prefix##_draw_chosen, prefix##_flip_curve, prefix##_list_path, prefix##_draw_path,                \
+            prefix##_check_patch, prefix##_draw_patch, prefix##_flip_patch, prefix##_to_cell,                 \
+            prefix##_half_way, prefix##_draw_sheet, prefix##_list_part, prefix##_totals, prefix##_refusal_line \
     }
 
 DECLARE_BOX(gidzkhalu);
@@ -94,6 +100,8 @@ DECLARE_BOX(before); /* another build of the library */
 #pragma weak before_choose_steps
 #pragma weak before_draw_chosen
 #pragma weak before_flip_curve
+#pragma weak before_list_path
+#pragma weak before_draw_path
 #pragma weak before_flip_patch
 #endif
 

@@ -1,8 +1,10 @@
 /* The functions of a box, around its own. The file that includes this one defines CALL, the name of a function with its
    prefix, and before it:
      curves    quits, step_too_long, list_samples, mark_samples
+     paths     has_room, which counts the cells if the list may be too short; list_cells and mark_cells, which answer how
+               many there are
      patches   patch_step_too_long, mark_rows
-               mark_samples and mark_rows go over or under and answer how many cells are new
+               mark_samples, mark_cells and mark_rows go over or under and tell how many cells are new
      flips     reverse_points, of a curve; exchange_points, of a patch
      swatches  refusal_of_one and refusal_of_three, 0 or the number of channels; refusal_of_hue, of hue, saturation and
                value; coordinate; mix, of two channels */
@@ -66,6 +68,40 @@ answer CALL(draw_curve)(uint32_t side, const uint8_t *points, size_t points_len,
     else
         *new_cells = mark_samples(side, points, steps, mark, false, grid);
     return (answer)steps + 1;
+}
+
+/* Paths. */
+
+answer CALL(list_path)(uint32_t side, const uint8_t *points, size_t points_len, uint32_t steps, uint8_t *list,
+                       size_t list_len)
+{
+    if (points_len != 12)
+        return -51;
+    int refusal = order_of_list(side, points, 12, is_count_out(512, steps), false);
+    if (refusal != 0)
+        return -refusal;
+    if (test_steps(points, steps) < 0)
+        return -15;
+    if (!has_room(points, steps, list_len))
+        return -22;
+    return list_cells(points, steps, list);
+}
+
+answer CALL(draw_path)(uint32_t side, const uint8_t *points, size_t points_len, uint32_t steps, uint8_t mark,
+                       uint32_t choice, uint8_t *grid, size_t grid_len, uint32_t *new_cells)
+{
+    if (points_len != 12)
+        return -51;
+    if (choice > UNDER)
+        return -55;
+    int refusal = order_of_drawing(side, points, 12, grid_len, mark, is_count_out(512, steps));
+    if (refusal != 0)
+        return -refusal;
+    if (test_steps(points, steps) < 0)
+        return -15;
+    if (choice == UNDER)
+        return mark_cells(side, points, steps, mark, true, grid, new_cells);
+    return mark_cells(side, points, steps, mark, false, grid, new_cells);
 }
 
 /* Patches. */

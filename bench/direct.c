@@ -88,6 +88,74 @@ static void list_samples(const uint8_t *points, uint32_t n, uint8_t *list)
     }
 }
 
+/* Paths. */
+
+/* The cell of sample i on one axis; answers whether it is another than that of the sample before. */
+static inline bool moves(int64_t *cell, const uint8_t *points, int64_t n, int64_t i, int64_t scale)
+{
+    int64_t before = *cell;
+    *cell = move(before, sample(points, n, i), scale);
+    return *cell != before;
+}
+
+static INLINED uint32_t mark_cells(uint32_t side, const uint8_t *points, uint32_t n, uint8_t mark, bool under,
+                                   uint8_t *grid, uint32_t *new_cells)
+{
+    int64_t s = side, scale = cubed(n), x = points[0], y = points[1], z = points[2];
+    uint32_t cells = 1, fresh = mark_cell(grid + (x + s * y + s * s * z), mark, under);
+    for (uint32_t i = 1; i <= n; i++) {
+        if (moves(&x, points, n, i, scale)) {
+            cells++;
+            fresh += mark_cell(grid + (x + s * y + s * s * z), mark, under);
+        }
+        if (moves(&y, points + 1, n, i, scale)) {
+            cells++;
+            fresh += mark_cell(grid + (x + s * y + s * s * z), mark, under);
+        }
+        if (moves(&z, points + 2, n, i, scale)) {
+            cells++;
+            fresh += mark_cell(grid + (x + s * y + s * s * z), mark, under);
+        }
+    }
+    *new_cells = fresh;
+    return cells;
+}
+
+static inline void put_cell(uint8_t *list, int64_t x, int64_t y, int64_t z)
+{
+    list[0] = (uint8_t)x;
+    list[1] = (uint8_t)y;
+    list[2] = (uint8_t)z;
+}
+
+static uint32_t list_cells(const uint8_t *points, uint32_t n, uint8_t *list)
+{
+    int64_t scale = cubed(n), x = points[0], y = points[1], z = points[2];
+    uint8_t *at = list;
+    put_cell(at, x, y, z);
+    for (uint32_t i = 1; i <= n; i++) {
+        if (moves(&x, points, n, i, scale))
+            put_cell(at += 3, x, y, z);
+        if (moves(&y, points + 1, n, i, scale))
+            put_cell(at += 3, x, y, z);
+        if (moves(&z, points + 2, n, i, scale))
+            put_cell(at += 3, x, y, z);
+    }
+    return (uint32_t)(at - list) / 3 + 1;
+}
+
+static inline bool has_room(const uint8_t *points, uint32_t n, size_t list_len)
+{
+    int64_t scale = cubed(n), cell[3] = {points[0], points[1], points[2]};
+    uint32_t cells = 1;
+    if (list_len >= 3 * (3 * (size_t)n + 1))
+        return true;
+    for (uint32_t i = 1; i <= n; i++)
+        for (int a = 0; a < 3; a++)
+            cells += moves(&cell[a], points + a, n, i, scale);
+    return list_len >= 3 * (size_t)cells;
+}
+
 /* Patches. */
 
 /* The control values along t of row j, times m³. */

@@ -216,6 +216,88 @@ static void list_samples(const uint8_t *points, uint32_t n, uint8_t *list)
     }
 }
 
+/* Paths. */
+
+/* A step, and whether it moved. */
+static inline bool moves(struct cubic *c, int64_t scale, int64_t stride, int64_t *place)
+{
+    next(c);
+    if (c->value > scale) {
+        *place += stride;
+        c->value -= 2 * scale;
+        return true;
+    }
+    if (c->value <= -scale) {
+        *place -= stride;
+        c->value += 2 * scale;
+        return true;
+    }
+    return false;
+}
+
+/* Marks the cells of the path: one after each move. Answers how many there are. */
+static INLINED uint32_t mark_cells(uint32_t side, const uint8_t *points, uint32_t n, uint8_t mark, bool under,
+                                   uint8_t *grid, uint32_t *new_cells)
+{
+    int64_t scale = cubed(n), row = side, plane = row * row, place = first_place(points, side);
+    struct cubic x = start_walk(points, n), y = start_walk(points + 1, n), z = start_walk(points + 2, n);
+    uint32_t cells = 1, fresh = mark_cell(grid + place, mark, under);
+    for (; n > 0; n--) {
+        if (moves(&x, scale, 1, &place)) {
+            cells++;
+            fresh += mark_cell(grid + place, mark, under);
+        }
+        if (moves(&y, scale, row, &place)) {
+            cells++;
+            fresh += mark_cell(grid + place, mark, under);
+        }
+        if (moves(&z, scale, plane, &place)) {
+            cells++;
+            fresh += mark_cell(grid + place, mark, under);
+        }
+    }
+    *new_cells = fresh;
+    return cells;
+}
+
+static uint32_t list_cells(const uint8_t *points, uint32_t n, uint8_t *list)
+{
+    int64_t scale = cubed(n), x = points[0], y = points[1], z = points[2];
+    struct cubic cx = start_walk(points, n), cy = start_walk(points + 1, n), cz = start_walk(points + 2, n);
+    uint8_t *at = list;
+    put_cell(at, x, y, z);
+    for (; n > 0; n--) {
+        if (moves(&cx, scale, 1, &x))
+            put_cell(at += 3, x, y, z);
+        if (moves(&cy, scale, 1, &y))
+            put_cell(at += 3, x, y, z);
+        if (moves(&cz, scale, 1, &z))
+            put_cell(at += 3, x, y, z);
+    }
+    return (uint32_t)(at - list) / 3 + 1;
+}
+
+/* The moves of one axis. */
+static APART uint32_t count_moves(struct cubic c, uint32_t n, int64_t scale)
+{
+    uint32_t count = 0;
+    int64_t place = 0;
+    for (; n > 0; n--)
+        count += moves(&c, scale, 1, &place);
+    return count;
+}
+
+/* A list with room for the longest path is not counted for. */
+static inline bool has_room(const uint8_t *points, uint32_t n, size_t list_len)
+{
+    if (list_len >= 3 * (3 * (size_t)n + 1))
+        return true;
+    uint32_t cells = 1;
+    for (int a = 0; a < 3; a++)
+        cells += count_moves(start_walk(points + a, n), n, cubed(n));
+    return list_len >= 3 * (size_t)cells;
+}
+
 /* Patches. */
 
 /* One axis: cubics along u of the value at t = 0 and of its three differences along t. */

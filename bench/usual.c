@@ -64,6 +64,81 @@ static inline bool step_too_long(const uint8_t *points, uint32_t n)
     return false;
 }
 
+/* Paths. */
+
+/* Takes an axis to the next sample's cell; answers whether it was another one. */
+static inline bool moves(size_t *at, size_t next)
+{
+    bool moved = *at != next;
+    *at = next;
+    return moved;
+}
+
+static INLINED uint32_t mark_cells(uint32_t side, const uint8_t *points, uint32_t n, uint8_t mark, bool under,
+                                   uint8_t *grid, uint32_t *new_cells)
+{
+    size_t x = points[0], y = points[1], z = points[2];
+    uint32_t cells = 1, fresh = mark_cell(grid + (x + side * (y + side * z)), mark, under);
+    for (uint32_t i = 1; i <= n; i++) {
+        float t = (float)i / (float)n;
+        size_t next_x = rounded(points, t), next_y = rounded(points + 1, t), next_z = rounded(points + 2, t);
+        if (moves(&x, next_x)) {
+            cells++;
+            fresh += mark_cell(grid + (x + side * (y + side * z)), mark, under);
+        }
+        if (moves(&y, next_y)) {
+            cells++;
+            fresh += mark_cell(grid + (x + side * (y + side * z)), mark, under);
+        }
+        if (moves(&z, next_z)) {
+            cells++;
+            fresh += mark_cell(grid + (x + side * (y + side * z)), mark, under);
+        }
+    }
+    *new_cells = fresh;
+    return cells;
+}
+
+static inline void put_cell(uint8_t *list, size_t x, size_t y, size_t z)
+{
+    list[0] = (uint8_t)x;
+    list[1] = (uint8_t)y;
+    list[2] = (uint8_t)z;
+}
+
+static uint32_t list_cells(const uint8_t *points, uint32_t n, uint8_t *list)
+{
+    size_t x = points[0], y = points[1], z = points[2];
+    uint8_t *at = list;
+    put_cell(at, x, y, z);
+    for (uint32_t i = 1; i <= n; i++) {
+        float t = (float)i / (float)n;
+        size_t next_x = rounded(points, t), next_y = rounded(points + 1, t), next_z = rounded(points + 2, t);
+        if (moves(&x, next_x))
+            put_cell(at += 3, x, y, z);
+        if (moves(&y, next_y))
+            put_cell(at += 3, x, y, z);
+        if (moves(&z, next_z))
+            put_cell(at += 3, x, y, z);
+    }
+    return (uint32_t)(at - list) / 3 + 1;
+}
+
+static inline bool has_room(const uint8_t *points, uint32_t n, size_t list_len)
+{
+    size_t x = points[0], y = points[1], z = points[2], cells = 1;
+    if (list_len >= 3 * (3 * (size_t)n + 1))
+        return true;
+    for (uint32_t i = 1; i <= n; i++) {
+        float t = (float)i / (float)n;
+        size_t next_x = rounded(points, t), next_y = rounded(points + 1, t), next_z = rounded(points + 2, t);
+        cells += moves(&x, next_x);
+        cells += moves(&y, next_y);
+        cells += moves(&z, next_z);
+    }
+    return list_len >= 3 * cells;
+}
+
 /* Patches. */
 
 static inline void row_controls(const uint8_t *points, float u, float g[4])
