@@ -9,8 +9,8 @@ use Rattle.cube.specs.Cube.{sideOut, volume}
 use Rattle.drawing.specs.declared.Choice.{Choice}
 use Rattle.drawing.specs.declared.Choice.the-variants.{Over}
 use Rattle.drawing.specs.Object.{Object, curve}
-use Rattle.drawing.specs.Refusals.{coordinateOut, stepsTooLong, sampleCount}
-use Rattle.drawing.specs.Drawing.{cells, Drawing}
+use Rattle.drawing.specs.Refusals.{coordinateOut, stepsTooLong}
+use Rattle.drawing.specs.Drawing.{Drawing, drawingOf, judgedBy}
 use Rattle.gaps.specs.Gaps.{largestGap}
 use Rattle.chosen.specs.declared.CountAnswer.{CountAnswer}
 use Rattle.chosen.specs.declared.CountAnswer.the-variants.{Steps, Refused}
@@ -52,13 +52,8 @@ countAnswerOf (Refused k) = refuses k
 abbrev pub chosenCurve : (points : List ℕ) (mark : ℕ) (choice : Choice) → Object
 chosenCurve points mark choice = curve (chosen points) points mark choice
 
--- The draw call with a chosen count.
+-- The draw call with a chosen count: document 01's drawing of that curve, with the order above.
 abbrev pub chosenDrawing : (S : ℕ) (points : List ℕ) (mark : ℕ) (choice : Choice) → Drawing
-chosenDrawing S points mark choice = record {
-  side = S;
-  cells = cells (chosenCurve points mark choice);
-  mark = mark;
-  choice = choice;
-  answer = sampleCount (chosenCurve points mark choice .counts);
-  verdict = λ gridLength. firstThat (chosenOrder S points (not (eqb gridLength (volume S))) (eqb mark 0));
-}
+chosenDrawing S points mark choice =
+    judgedBy (λ gridLength. firstThat (chosenOrder S points (not (eqb gridLength (volume S))) (eqb mark 0)))
+    (drawingOf S (chosenCurve points mark choice))

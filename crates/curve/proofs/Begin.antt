@@ -72,7 +72,7 @@ module _ {S : ℕ} (c : Curve) (twelve : length (c .points) ≡ 12) (d : Drawabl
     room = λ a. along-room limits (offset a) (offset-small a);
   }
 
-  unfoldable pub grid-row : Walk S (curveOf c) (gridStrides S) (c .steps) (along []) (λ a. doubledAlong c (offset a))
+  grid-row : Walk S (curveOf c) (gridStrides S) (c .steps) (along []) (λ a. doubledAlong c (offset a))
   grid-row = curve-row (gridStrides S) (gridStride S) (grid-stride-is S) (grid-stride-small (d .side-most))
 
   unfoldable pub list-row : Walk S (curveOf c) listStrides (c .steps) (along []) (λ a. doubledAlong c (offset a))

@@ -1,6 +1,6 @@
 -- The verdict of a call with a curve, where v is what came before the step test and t what the test of the curve told.
 use mathlib.Core.Path.{_≡_, refl, sym}
-use mathlib.Core.Bool.{Bool, true, false, _||_}
+use mathlib.Core.Bool.{Bool, true, false}
 use mathlib.Core.Logic.{⊎-elim}
 use mathlib.Core.List.{[], _∷_}
 use Prim.Native.Nat.{ℕ}
@@ -14,6 +14,7 @@ use Rattle.decide.specs.declared.Verdict as found
 use Rattle.decide.specs.declared.Verdict.the-variants.{Accepted, Refused}
 use Rattle.decide.specs.Verdict.{verdictOf}
 use Rattle.decide.proofs.Truth.{false-iff}
+use Rattle.decide.proofs.Some.{some-of-one}
 use Rattle.drawing.specs.Object.{Object}
 use Rattle.drawing.specs.Refusals.{countOut, stepsTooLong, order}
 use Rattle.drawing.proofs.Accepted.{count-in}
@@ -25,11 +26,6 @@ use Rattle.curve.specs.declared.steps.StepTest.the-variants.{Walked, Qui
 use Rattle.curve.specs.Curve.{curveOf, tellsLong}
 use Rattle.curve.specs.Machine.{InLimits}
 use Rattle.curve.proofs.steps.StepTest.{the-type}
-
--- One count is out where some count of the curve is.
-one-count : (b : Bool) → b ≡ (b || false)
-one-count true = refl
-one-count false = refl
 
 -- The arm of both answers that find no long step.
 pub not-long : (t : StepTest) → OneOf (0 ∷ 1 ∷ []) (tagOf the-type t) → tellsLong t ≡ false
@@ -43,8 +39,7 @@ module _ (S : ℕ) (c : Curve) (g m l : Bool) (v : found.Verdict)
   o = curveOf c
 
   counted : countOut 512 (c .steps) ≡ someOf (countOut (o .most)) (o .counts)
-  unfolding someOf
-  counted = one-count (countOut 512 (c .steps))
+  counted = sym (some-of-one (countOut 512) (c .steps))
 
   pub before-refused : {k : ℕ} → v ≡ Refused k → firstThat (order S o g m l) ≡ refused k
   before-refused q = sym (refused-before S o g m l (countOut 512 (c .steps)) counted v e q)

@@ -1,17 +1,17 @@
 -- The first number that applies, in words: no number exactly where no rule applies, and otherwise the number of a
 -- rule that applies while none before it does.
 use mathlib.Core.Path.{_≡_, refl, sym, ap, _∙_}
-use mathlib.Core.Logic.{_↔_, _≢_, _⊎_, inl, inr, ⊎-elim}
-use mathlib.Core.Bool.{Bool, true, false, cond}
+use mathlib.Core.Logic.{_↔_, _⊎_, inl, inr, ⊎-elim}
+use mathlib.Core.Bool.{Bool, true, false, cond, true≢false}
 use mathlib.Core.List.{List, [], _∷_, _++_}
 use Prim.Native.Nat.{ℕ, _≤_}
 use native.Mathlib.Omega.{arith}
-use lib.Dec.{ltb}
+use lib.Dec.{ltb, eqb}
 use borrow.Author.Tests.{ltb-false}
 use Rattle.decide.specs.Some.{someOf}
-use Rattle.decide.specs.Refusal.{Rule, _when_, Verdict, accepted, refused, firstThat, numbers, orElse}
+use Rattle.decide.specs.Refusal.{Rule, _when_, Verdict, accepted, refused, firstThat, rightAfter, numbers, orElse}
 use Rattle.decide.specs.Refusal.{gives, refuses, outcome, telling}
-use Rattle.decide.proofs.Truth.{both-false}
+use Rattle.decide.proofs.Truth.{both-false, equal, false-iff}
 
 -- No rule of the order applies.
 abbrev pub NoneApplies : List Rule → Type 0
@@ -83,15 +83,33 @@ refused-most m rules none e = first-most (first-of-refused rules _ e) none
     first-most (there {r} {rs} a f) none =
         first-most f (both-false (ltb m (r .number)) (someOf (ltb m) (numbers rs)) none .1)
 
--- A rule with another number, before the first that applies, does not apply.
-pub passed-over : {k : ℕ} {r : Rule} {rs : List Rule} → FirstApplies k (r ∷ rs) → r .number ≢ k →
-    (r .applies ≡ false) × FirstApplies k rs
-passed-over (here a e) other = absurd (other e)
-passed-over (there a f) other = (a, f)
+-- A number that no rule has is not answered.
+pub not-answered : (k : ℕ) (rules : List Rule) → someOf (eqb k) (numbers rules) ≡ false → ¬ (firstThat rules ≡ refused k)
+unfolding someOf numbers
+not-answered k rules none e = other (first-of-refused rules k e) none
+  where
+    other : {rules : List Rule} → FirstApplies k rules → ¬ (someOf (eqb k) (numbers rules) ≡ false)
+    other (here {r} {rs} a e) none =
+        false-iff (eqb k (r .number)) .0 (both-false (eqb k (r .number)) (someOf (eqb k) (numbers rs)) none .0)
+        (equal k (r .number) .1 (sym e))
+    other (there {r} {rs} a f) none = other f (both-false (eqb k (r .number)) (someOf (eqb k) (numbers rs)) none .1)
 
--- The only rule left is the one that applies.
-pub only-left : {k : ℕ} {r : Rule} → FirstApplies k (r ∷ []) → r .applies ≡ true
-only-left (here a e) = a
+-- A number that one rule alone has is answered exactly where that rule applies and none before it does.
+pub refused-at : (k : ℕ) (b : Bool) (before after : List Rule) →
+    someOf (eqb k) (numbers before) ≡ false → someOf (eqb k) (numbers after) ≡ false →
+    (firstThat (before ++ k when b ∷ after) ≡ refused k) ↔ (NoneApplies before × (b ≡ true))
+unfolding firstThat numbers someOf step
+refused-at k true [] after n m = (λ e. (tt, refl), λ w. refl)
+refused-at k false [] after n m = (λ e. absurd (not-answered k after m e), λ w. absurd (true≢false (sym (w .1))))
+refused-at k b (r ∷ rs) after n m =
+    let p = both-false (eqb k (r .number)) (someOf (eqb k) (numbers rs)) n in
+    let rest = refused-at k b rs after (p .1) m in (
+      λ e. ⊎-elim
+          (λ w. absurd (false-iff (eqb k (r .number)) .0 (p .0) (equal k (r .number) .1 (sym (w .1)))))
+          (λ w. let t = rest .0 (w .1) in ((w .0, t .0), t .1))
+          (step-refused r (firstThat (rs ++ k when b ∷ after)) k e),
+      λ w. rw (w .0 .0) (rest .1 (w .0 .1, w .1)),
+    )
 
 -- A call is accepted, or refused with some number,
 pub by-verdict : (v : Verdict) (P : Type 0) → (v ≡ accepted → P) → ((k : ℕ) → v ≡ refused k → P) → P
@@ -179,3 +197,29 @@ accepted-append-three a b c e =
     let r = accepted-append a (b ++ c) e in
     let q = accepted-append b c (r .1) in
     (r .0, q .0, q .1)
+
+-- An order with a rule more, right after the one with number k, answers what it answered, or else the rule applies and its
+-- number is the answer.
+pub inserted : (k : ℕ) (new : Rule) (rules : List Rule) →
+    (firstThat (rightAfter k new rules) ≡ firstThat rules) ⊎
+    ((new .applies ≡ true) × (firstThat (rightAfter k new rules) ≡ refused (new .number)))
+unfolding firstThat rightAfter
+inserted k new [] = inl refl
+inserted k new (r ∷ rs) = at-rule (eqb (r .number) k) (r .applies) (new .applies) (inserted k new rs)
+  where
+    at-rule : (here applies more : Bool) →
+        (firstThat (rightAfter k new rs) ≡ firstThat rs) ⊎
+        ((more ≡ true) × (firstThat (rightAfter k new rs) ≡ refused (new .number))) →
+        let old : Rule = r .number when applies in
+        let order : List Rule = cond here (old ∷ new .number when more ∷ rs) (old ∷ rightAfter k new rs) in
+        (firstThat order ≡ firstThat (old ∷ rs)) ⊎ ((more ≡ true) × (firstThat order ≡ refused (new .number)))
+    at-rule true true more w = inl refl
+    at-rule true false true w = inr (refl, refl)
+    at-rule true false false w = inl refl
+    at-rule false true more w = inl refl
+    at-rule false false more w = w
+
+-- So it is as it was where the rule does not apply.
+pub inserted-idle : (k : ℕ) (new : Rule) (rules : List Rule) → new .applies ≡ false →
+    firstThat (rightAfter k new rules) ≡ firstThat rules
+inserted-idle k new rules e = ⊎-elim (λ s. s) (λ w. absurd (true≢false (sym (w .0) ∙ e))) (inserted k new rules)

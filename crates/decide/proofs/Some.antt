@@ -1,7 +1,7 @@
 -- The tests of `Some` in words: each is true exactly where an index or an element that passes exists.
-use mathlib.Core.Path.{_≡_, subst}
+use mathlib.Core.Path.{_≡_, refl, subst}
 use mathlib.Core.Logic.{_↔_, _⊎_, inl, inr, ⊎-elim}
-use mathlib.Core.Bool.{Bool}
+use mathlib.Core.Bool.{Bool, true, false, _||_}
 use mathlib.Core.List.{List, [], _∷_}
 use Prim.Native.Nat.{ℕ, zero, suc, _<_}
 use native.Mathlib.Omega.{arith}
@@ -51,3 +51,12 @@ module _ (p : ℕ → Bool) where
   -- Some element of the list passes.
   pub some-of : (l : List ℕ) → T (someOf p l) ↔ ((k : ℕ) × (k < length l) × T (p (getD l k 0)))
   some-of l = (found-of l, λ w. seen-of l (w .0) (w .1) (w .2))
+
+-- Of a list of one element it is that one.
+pub some-of-one : (p : ℕ → Bool) (a : ℕ) → someOf p (a ∷ []) ≡ p a
+unfolding someOf
+some-of-one p a = or-none (p a)
+  where
+    or-none : (b : Bool) → (b || false) ≡ b
+    or-none true = refl
+    or-none false = refl

@@ -2,6 +2,7 @@
 use mathlib.Core.Bool.{Bool, cond}
 use mathlib.Core.List.{List, [], _∷_}
 use Prim.Native.Nat.{ℕ}
+use lib.Dec.{eqb}
 
 -- A refusal number, and whether it applies.
 pub record Rule : Type 0 where
@@ -21,6 +22,11 @@ pub data Verdict : Type 0 where
 unfoldable pub firstThat : List Rule → Verdict
 firstThat [] = accepted
 firstThat (r ∷ rs) = cond (r .applies) (refused (r .number)) (firstThat rs)
+
+-- The order with a rule more, right after the one with a number.
+unfoldable pub rightAfter : (k : ℕ) (new : Rule) → List Rule → List Rule
+rightAfter k new [] = []
+rightAfter k new (r ∷ rs) = cond (eqb (r .number) k) (r ∷ new ∷ rs) (r ∷ rightAfter k new rs)
 
 -- The numbers of an order, as document 01 lists them.
 unfoldable pub numbers : List Rule → List ℕ

@@ -52,22 +52,51 @@ steps-too-long o = (
 
 module _ (p : ℕ → Bool) (l : List ℕ) where
   -- No element of the list passes.
-  none-of : (¬ T (someOf p l)) ↔ ((k : ℕ) → k < length l → ¬ T (p (getD l k 0)))
-  none-of = (λ f k h t. f (some-of p l .1 (k, h, t)), λ g t. let w = some-of p l .0 t in g (w .0) (w .1) (w .2))
+  none-of : (someOf p l ≡ false) ↔ ((k : ℕ) → k < length l → ¬ T (p (getD l k 0)))
+  none-of = (
+    λ e k h t. false-iff (someOf p l) .0 e (some-of p l .1 (k, h, t)),
+    λ g. false-of (someOf p l) (λ t. let w = some-of p l .0 t in g (w .0) (w .1) (w .2)),
+  )
+
+-- 13, 21 and 12 do not apply, in words.
+pub counts-in : (most : ℕ) (counts : List ℕ) →
+    (someOf (countOut most) counts ≡ false) ↔
+    (((k : ℕ) → k < length counts → 1 ≤ getD counts k 0) × ((k : ℕ) → k < length counts → getD counts k 0 ≤ most))
+counts-in most counts =
+    let none = none-of (countOut most) counts in (
+      λ e. (λ k h. count-in most _ .0 (none .0 e k h) .0, λ k h. count-in most _ .0 (none .0 e k h) .1),
+      λ w. none .1 (λ k h. count-in most _ .1 (w .0 k h, w .1 k h)),
+    )
+
+pub cube-length : (S len : ℕ) → (not (eqb len (volume S)) ≡ false) ↔ (len ≡ volume S)
+cube-length S len = (
+  λ e. equal len (volume S) .0 (not-false (eqb len (volume S)) e),
+  λ e. rw (true-of (eqb len (volume S)) (equal len (volume S) .1 e)),
+)
+  where
+    not-false : (b : Bool) → not b ≡ false → T b
+    not-false true e = tt
+    not-false false e = absurd (true≢false e)
+
+pub not-0 : (mark : ℕ) → (eqb mark 0 ≡ false) ↔ (1 ≤ mark)
+not-0 mark = (
+  λ e. let z : ¬ (mark ≡ 0) = λ q. false-iff (eqb mark 0) .0 e (equal mark 0 .1 q) in omega arith,
+  λ h. false-of (eqb mark 0) (λ t. omega (arith, equal mark 0 .0 t, h)),
+)
 
 module _ (S : ℕ) (o : Object) where
   drawable-of : (g m l : Bool) → NoneApplies (order S o g m l) → Drawable S o
   unfolding order
   drawable-of g m l n =
       let side = side-in S .0 (false-iff _ .0 (n .0)) in
-      let counts = none-of (countOut (o .most)) (o .counts) .0 (false-iff _ .0 (n .1 .1 .1 .0)) in
-      let points = none-of (coordinateOut S) (o .points) .0 (false-iff _ .0 (n .1 .1 .1 .1 .1 .0)) in
+      let counts = counts-in (o .most) (o .counts) .0 (n .1 .1 .1 .0) in
+      let points = none-of (coordinateOut S) (o .points) .0 (n .1 .1 .1 .1 .1 .0) in
       let steps = false-iff (stepsTooLong o) .0 (n .1 .1 .1 .1 .1 .1 .0) in
       record {
         side-least = side .0;
         side-most = side .1;
-        count-least = λ k h. count-in (o .most) (getD (o .counts) k 0) .0 (counts k h) .0;
-        count-most = λ k h. count-in (o .most) (getD (o .counts) k 0) .0 (counts k h) .1;
+        count-least = counts .0;
+        count-most = counts .1;
         coordinate-below = λ k h. coordinate-in S (getD (o .points) k 0) .0 (points k h);
         steps-short = λ a l. steps (steps-too-long o .1 (a, l));
       }
@@ -76,12 +105,11 @@ module _ (S : ℕ) (o : Object) where
   unfolding order
   none-applies g m l d eg em el =
       let side = side-in S .1 (d .side-least, d .side-most) in
-      let counts = none-of (countOut (o .most)) (o .counts) .1
-      (λ k h. count-in (o .most) (getD (o .counts) k 0) .1 (d .count-least k h, d .count-most k h)) in
+      let counts = counts-in (o .most) (o .counts) .1 (d .count-least, d .count-most) in
       let points = none-of (coordinateOut S) (o .points) .1
       (λ k h. coordinate-in S (getD (o .points) k 0) .1 (d .coordinate-below k h)) in
       let steps : ¬ T (stepsTooLong o) = λ t. let w = steps-too-long o .0 t in d .steps-short (w .0) (w .1) in
-      (false-of _ side, (eg, (em, (false-of _ counts, (el, (false-of _ points, (false-of _ steps, tt)))))))
+      (false-of _ side, (eg, (em, (counts, (el, (points, (false-of _ steps, tt)))))))
 
   -- An order answers no number exactly where the object is drawable and none of the call's own tests applies.
   pub order-accepted : (g m l : Bool) →
@@ -97,23 +125,11 @@ module _ (S : ℕ) (o : Object) where
   pub draw-accepted : (len : ℕ) →
       (drawVerdict S len o ≡ accepted) ↔ (Drawable S o × (len ≡ volume S) × (1 ≤ o .mark))
   unfolding drawVerdict
-  draw-accepted len = (
-    λ e. let w = order-accepted (not (eqb len (volume S))) (eqb (o .mark) 0) false .0 e in
-        (w .0, equal len (volume S) .0 (not-false (eqb len (volume S)) (w .1)), positive (w .2)),
-    λ w. order-accepted (not (eqb len (volume S))) (eqb (o .mark) 0) false .1 (
-      w .0,
-      rw (true-of (eqb len (volume S)) (equal len (volume S) .1 (w .1))),
-      false-of _ (λ t. omega (arith, equal (o .mark) 0 .0 t, w .2)),
-      refl,
-    ),
-  )
-    where
-      not-false : (b : Bool) → not b ≡ false → T b
-      not-false true e = tt
-      not-false false e = absurd (true≢false e)
-
-      positive : eqb (o .mark) 0 ≡ false → 1 ≤ o .mark
-      positive e = let z : ¬ (o .mark ≡ 0) = λ q. false-iff (eqb (o .mark) 0) .0 e (equal (o .mark) 0 .1 q) in omega arith
+  draw-accepted len =
+      let by = order-accepted (not (eqb len (volume S))) (eqb (o .mark) 0) false in (
+        λ e. let w = by .0 e in (w .0, cube-length S len .0 (w .1), not-0 (o .mark) .0 (w .2)),
+        λ w. by .1 (w .0, cube-length S len .1 (w .1), not-0 (o .mark) .1 (w .2), refl),
+      )
 
   -- A listing is accepted exactly where the object is drawable and the list has room for its cells.
   pub list-accepted : (len : ℕ) →

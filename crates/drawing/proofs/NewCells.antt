@@ -19,6 +19,12 @@ use Rattle.drawing.specs.NewCells.{unmarkedCells, newCells, newInTurn, D
 use Rattle.drawing.proofs.Marked.{markedAt, written-marked, at-place, elsewhere, length-marked, marked-holds, marked-there}
 use Rattle.drawing.proofs.Drawn.{PlaceOf, of-cell, place-listed, Fits, cell-below, drawn-refused, drawn-accepted}
 
+-- In a cleared grid all cells are unmarked.
+pub unmarked-cleared : (n : ℕ) → unmarkedCells (replicate n 0) ≡ n
+unfolding unmarkedCells
+unmarked-cleared zero = refl
+unmarked-cleared (suc n) = omega (arith, unmarked-cleared n)
+
 -- What a byte adds to the unmarked cells is at most one.
 one-at-most : (b : Bool) → cond b 1 0 ≤ 1
 one-at-most true = omega arith
@@ -29,12 +35,6 @@ pub unmarked-at-most : (grid : List ℕ) → unmarkedCells grid ≤ length grid
 unfolding unmarkedCells
 unmarked-at-most [] = omega arith
 unmarked-at-most (mark ∷ grid) = omega (arith, one-at-most (eqb mark 0), unmarked-at-most grid)
-
--- In a cleared grid all are.
-pub unmarked-cleared : (n : ℕ) → unmarkedCells (replicate n 0) ≡ n
-unfolding unmarkedCells
-unmarked-cleared zero = refl
-unmarked-cleared (suc n) = omega (arith, unmarked-cleared n)
 
 -- One mark: the cell is new where it was unmarked.
 pub unmarked-set : (m : ℕ) → 1 ≤ m → (grid : List ℕ) (p : ℕ) → p < length grid →

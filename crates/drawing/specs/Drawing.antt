@@ -81,6 +81,17 @@ abbrev pub choosing : Choice → Drawing → Drawing
 choosing c d =
     record { side = d .side; cells = d .cells; mark = d .mark; choice = c; answer = d .answer; verdict = d .verdict }
 
+-- The same drawing with an order of its own.
+abbrev pub judgedBy : (verdict : (gridLength : ℕ) → Verdict) → Drawing → Drawing
+judgedBy verdict d = record {
+  side = d .side;
+  cells = d .cells;
+  mark = d .mark;
+  choice = d .choice;
+  answer = d .answer;
+  verdict = verdict;
+}
+
 -- The grid after a drawing: an accepted one writes the mark, over or under, in each of its cells, nothing else.
 unfoldable pub drawnBy : Drawing → (grid : List ℕ) → List ℕ
 drawnBy d grid =

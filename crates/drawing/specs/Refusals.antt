@@ -40,8 +40,11 @@ order S o gridWrong markWrong listShort =
     []
 
 -- A drawing has no list. 21: the grid is not S × S × S bytes; 12: mark 0.
+abbrev pub drawingOrder : (S gridLength : ℕ) (o : Object) → List Rule
+drawingOrder S gridLength o = order S o (not (eqb gridLength (volume S))) (eqb (o .mark) 0) false
+
 unfoldable pub drawVerdict : (S gridLength : ℕ) (o : Object) → Verdict
-drawVerdict S gridLength o = firstThat (order S o (not (eqb gridLength (volume S))) (eqb (o .mark) 0) false)
+drawVerdict S gridLength o = firstThat (drawingOrder S gridLength o)
 
 -- A listing has no grid and ignores the record's mark. 22: the list is shorter than 3 × (n + 1) bytes.
 unfoldable pub listVerdict : (S listLength : ℕ) (o : Object) → Verdict
