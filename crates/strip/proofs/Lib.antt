@@ -1,0 +1,2 @@
+-- `Orders`: the strip's order beside the main path's.
+pub mod Orders
