@@ -6,8 +6,8 @@ use Rattle.drawing.specs.Drawing.{inTurn}
 use Rattle.scan.specs.declared.answer.DrawAnswer.{DrawAnswer}
 use Rattle.scan.specs.Answer.{Draws}
 use Rattle.claims.specs.Demand3.{Call, drawingBy, run}
-use Rattle.claims.specs.Calls.{curveCall, patchCall, chosenCall, pathCall}
-use Rattle.claims.specs.Calls.{Called, none, curve-then, patch-then, chosen-then, path-then}
+use Rattle.claims.specs.Calls.{curveCall, patchCall, chosenCall, pathCall, stripCurveCall, stripPatchCall, Called, none}
+use Rattle.claims.specs.Calls.{curve-then, patch-then, chosen-then, path-then, strip-curve-then, strip-patch-then}
 
 -- One call, of whatever kind, by its contract.
 pub turn : (call : Call) {grid after : List ℕ} {r : DrawAnswer} → Draws (drawingBy call) grid after r →
@@ -29,3 +29,5 @@ called-run (curve-then {side} {c} {calls = calls} d rest) = and-then (curveCall 
 called-run (patch-then {side} {p} {calls = calls} d rest) = and-then (patchCall side p) calls d (called-run rest)
 called-run (chosen-then {side} c {calls = calls} d rest) = and-then (chosenCall side c) calls d (called-run rest)
 called-run (path-then {side} {c} {calls = calls} d rest) = and-then (pathCall side c) calls d (called-run rest)
+called-run (strip-curve-then {side} {c} {calls = calls} d rest) = and-then (stripCurveCall side c) calls d (called-run rest)
+called-run (strip-patch-then {side} {p} {calls = calls} d rest) = and-then (stripPatchCall side p) calls d (called-run rest)

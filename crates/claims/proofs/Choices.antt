@@ -16,7 +16,9 @@ use Rattle.drawing.proofs.Marked as marks
 use Rattle.drawing.proofs.Drawn.{PlaceOf, Fits, drawn-holds, drawn-there, drawn-in-any-order}
 use Rattle.drawing.proofs.Choices as choices
 use Rattle.path.specs.Path.{pathLength, pathListVerdict, pathListing}
-use Rattle.claims.specs.Demand3.{Call, draw-curve, draw-patch, draw-chosen, draw-path, drawingBy}
+use Rattle.strip.specs.Strip.{stripOrder, stripVerdict}
+use Rattle.claims.specs.Demand3.{Call, draw-curve, draw-patch, draw-chosen, draw-path, draw-strip-curve, draw-strip-patch}
+use Rattle.claims.specs.Demand3.{drawingBy}
 use Rattle.claims.specs.Choices.{OverOrUnder, goingBy, Claim}
 use Rattle.claims.proofs.Supplied.{supplied}
 
@@ -53,11 +55,13 @@ module _ (d : Drawing) (grid : List ℕ) (e : d .verdict (length grid) ≡ accep
 
 -- The drawing of a call with a choice of its own is its drawing with the choice.
 drawing-by : (choice : Choice) (call : Call) → drawingBy (goingBy choice call) ≡ choosing choice (drawingBy call)
-unfolding exact cellOf cells stepsTooLong order drawVerdict pathLength
+unfolding exact cellOf cells stepsTooLong order drawVerdict pathLength stripOrder stripVerdict
 drawing-by choice (draw-curve side n points mark other) = refl
 drawing-by choice (draw-patch side n m points mark other) = refl
 drawing-by choice (draw-chosen side points mark other) = refl
 drawing-by choice (draw-path side n points mark other) = refl
+drawing-by choice (draw-strip-curve side n points mark other) = refl
+drawing-by choice (draw-strip-patch side n m points mark other) = refl
 
 -- Listings do not look at it.
 listing-going : (S : ℕ) (o : Object) (choice : Choice) → listingOf S (going choice o) ≡ listingOf S o

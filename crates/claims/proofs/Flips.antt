@@ -15,6 +15,7 @@ use Rattle.drawing.specs.Object.{Object, offset, coordinate, exact, cellOf}
 use Rattle.drawing.specs.Refusals.{countOut, coordinateOut, stepsTooLong, order, drawVerdict, checkVerdict}
 use Rattle.drawing.specs.Drawing.{row, bytes, Drawing, drawingOf}
 use Rattle.gaps.specs.Gaps.{quits}
+use Rattle.scan.proofs.Alike.{Alike, draw-the-same}
 use Rattle.curve.specs.declared.Curve.{Curve}
 use Rattle.curve.specs.Curve.{curveOf}
 use Rattle.curve.proofs.Answers.{check-answer-unique}
@@ -22,8 +23,9 @@ use Rattle.chosen.specs.Chosen.{chosen, countVerdict, chosenDrawing}
 use Rattle.chosen.proofs.Answers.{count-answer-unique}
 use Rattle.patch.specs.declared.Patch.{Patch}
 use Rattle.patch.specs.Patch.{patchOf}
+use Rattle.strip.specs.Strip.{stripDrawing}
 use Rattle.flip.specs.Flip.{pointsAt, reversed, flippedCurve, flippedPatch}
-use Rattle.flip.proofs.Samples.{Reordered, same-check-verdict, Alike, drawings-alike, draw-the-same}
+use Rattle.flip.proofs.Samples.{Reordered, same-check-verdict, drawings-alike, strips-alike}
 use Rattle.flip.proofs.Curves as curves
 use Rattle.flip.proofs.Patches as patches
 use Rattle.flip.proofs.Counts as counts
@@ -38,9 +40,13 @@ do-the-same d e w = record {
   grid = λ c f. draw-the-same d e w c f .1;
 }
 
--- Document 01's drawings of objects with the same samples.
-drawn-the-same : (S : ℕ) {o p : Object} → Reordered o p → DrawTheSame (drawingOf S o) (drawingOf S p)
-drawn-the-same S {o} {p} w = do-the-same (drawingOf S o) (drawingOf S p) (drawings-alike S w)
+-- Those of objects with the same samples, on the main path and on the strip.
+module _ (S : ℕ) {o p : Object} (w : Reordered o p) where
+  drawn-the-same : DrawTheSame (drawingOf S o) (drawingOf S p)
+  drawn-the-same = do-the-same (drawingOf S o) (drawingOf S p) (drawings-alike S w)
+
+  on-strip-the-same : DrawTheSame (stripDrawing S o) (stripDrawing S p)
+  on-strip-the-same = do-the-same (stripDrawing S o) (stripDrawing S p) (strips-alike S w)
 
 module _ (S : ℕ) (c : Curve) (h : length (c .points) ≡ 12) where
   abbrev n : ℕ
@@ -59,6 +65,7 @@ module _ (S : ℕ) (c : Curve) (h : length (c .points) ≡ 12) where
       back-rest = listings.keeps-rest S (curveOf (flippedCurve c)) k;
     };
     drawings = drawn-the-same S reordered;
+    strip-drawings = on-strip-the-same S reordered;
     checks = λ e f. check-answer-unique _ _ (e ∙
         ap (λ v. outcome v (quits (c .points) n)) (same-check-verdict reordered S) ∙
         ap (outcome (checkVerdict S (curveOf (flippedCurve c)))) (sym (counts.same-quit (c .points) n)) ∙ sym f);
@@ -80,6 +87,7 @@ module _ (S : ℕ) (p : Patch) (h : length (p .points) ≡ 48) where
     values = λ i j b d a. sym (patches.patch-value-exchanged (p .mark) (p .choice) (p .n) (p .m) (p .points) i j a);
     cells = λ i j b d. sym (patches.cell-exchanged (p .mark) (p .choice) (p .n) (p .m) (p .points) i j b d);
     drawings = drawn-the-same S patch-reordered;
+    strip-drawings = on-strip-the-same S patch-reordered;
     checks = λ e f. verdict-unique _ _ (e ∙ same-check-verdict patch-reordered S ∙ sym f);
   }
 

@@ -4,7 +4,8 @@
 -- a list of its own. `Instances`: small computed cases, which show that demand 3 speaks of something. `Totals`: the
 -- totals of an accepted sheet add up. `Slits`: patches have no slits. `NewCells`: new cells are different cells, and
 -- those of a sheet add up. `Choices`: strokes that go over and strokes that go under. `Quits`: where the test of a curve
--- quits no step is too long. `Chosen`: the count that the box chooses is the smallest. `Flips`: a flip is harmless.
+-- quits no step is too long. `Chosen`: the count that the box chooses is the smallest. `Flips`: a flip is harmless. `Strip`: the
+-- strip beside the main path.
 pub mod Known
 pub mod Turns
 pub mod Paths
@@ -21,3 +22,4 @@ pub mod Choices
 pub mod Quits
 pub mod Chosen
 pub mod Flips
+pub mod Strip

@@ -1,27 +1,30 @@
 -- What calls of each kind supply to the claims about all of them.
 use mathlib.Core.Path.{_≡_, refl, _∙_, ap}
+use mathlib.Core.Logic.{_⊎_}
 use mathlib.Core.List.{List, [], _∷_, List·Memᴰ}
 use Prim.Native.Nat.{ℕ, _≤_}
 use native.Mathlib.Omega.{arith}
 use lib.ListN.{getD}
 use Rattle.bezier.specs.Exact.{Sample, no-index, index}
-use Rattle.decide.specs.Refusal.{accepted}
+use Rattle.decide.specs.Refusal.{Verdict, accepted}
 use Rattle.cube.specs.Cube.{Cell, place}
 use Rattle.drawing.specs.declared.Choice.{Choice}
 use Rattle.drawing.specs.declared.Choice.the-variants.{Under}
 use Rattle.drawing.specs.Object.{Object, curve, patch, cellOf}
 use Rattle.drawing.specs.Refusals.{Drawable, drawVerdict}
-use Rattle.drawing.specs.Drawing.{written, cells}
+use Rattle.drawing.specs.Drawing.{written, cells, Drawing, drawingOf, judgedBy}
 use Rattle.drawing.proofs.Accepted.{draw-accepted}
 use Rattle.drawing.proofs.Cells.{cell-within, cell-inside, cells-next-to}
 use Rattle.drawing.proofs.Marked.{over-writes, under-fills, under-keeps, written-marked}
 use Rattle.drawing.proofs.Drawn.{cells-are, Fits, drawing-fits}
 use Rattle.chosen.specs.Chosen.{chosenCurve}
 use Rattle.chosen.proofs.Orders.{accepted-as-drawn}
-use Rattle.path.specs.Path.{path}
+use Rattle.path.specs.Path.{path, pathDrawing}
 use Rattle.path.proofs.OfCurve.{path-fits}
-use Rattle.claims.specs.Demand3.{Call, draw-curve, draw-patch, draw-chosen, draw-path, drawingBy, objectOf, Accepted}
-use Rattle.claims.specs.Demand3.{NearSample, Near, MarkedFromUnder, Holds, JustDrawn, PathJustDrawn, After}
+use Rattle.strip.proofs.Orders.{accepted-by-main}
+use Rattle.claims.specs.Demand3.{Call, draw-curve, draw-patch, draw-chosen, draw-path, draw-strip-curve, draw-strip-patch}
+use Rattle.claims.specs.Demand3.{drawingBy, objectOf, NearSample, NearInserted, Near, MarkedFromUnder, Holds}
+use Rattle.claims.specs.Demand3.{JustDrawn, PathJustDrawn, After}
 use Rattle.claims.specs.Paths.{FaceToFace}
 use Rattle.claims.proofs.Paths.{sample-near, face-to-face, inserted-on-path, inserted-near}
 
@@ -52,16 +55,17 @@ module _ {S : ℕ} {o : Object} {grid gridAfter : List ℕ} where
     by-at-most-one = λ f. cells-next-to d f;
   }
 
--- What a call of any kind supplies: its drawing writes its object's mark by its object's choice, an accepted one has a drawable
--- object and fits, its cells are near, and where they hold what the accuracy rule asks the rest of the rule follows.
-pub record Supplied (call : Call) : Type 0 where
-  pub mark : drawingBy call .mark ≡ objectOf call .mark
-  pub choice : drawingBy call .choice ≡ objectOf call .choice
-  pub drawable : (len : ℕ) → Accepted len call → Drawable (drawingBy call .side) (objectOf call)
-  pub fits : (len : ℕ) → Accepted len call → Fits (drawingBy call) len
-  pub near : {S : ℕ} → Drawable S (objectOf call) → (c : Cell) → List·Memᴰ c (drawingBy call .cells) → Near call c
-  pub after : {S : ℕ} {grid gridAfter : List ℕ} → Drawable S (objectOf call) →
-      ((c : Cell) → List·Memᴰ c (drawingBy call .cells) → Holds S (objectOf call) grid gridAfter c) → After call S grid gridAfter
+-- What a drawing of an object supplies, by what its kind says of a cell near the object and of the grid just after it: it writes
+-- the object's mark by the object's choice; an accepted one has a drawable object and fits; its cells are near; and where they
+-- hold what the accuracy rule asks, the rest of the rule follows.
+pub record Supplied (d : Drawing) (o : Object) (Near : Cell → Type 0) (After : (S : ℕ) (grid gridAfter : List ℕ) → Type 0) : Type 0 where
+  pub mark : d .mark ≡ o .mark
+  pub choice : d .choice ≡ o .choice
+  pub drawable : (len : ℕ) → d .verdict len ≡ accepted → Drawable (d .side) o
+  pub fits : (len : ℕ) → d .verdict len ≡ accepted → Fits d len
+  pub near : {S : ℕ} → Drawable S o → (c : Cell) → List·Memᴰ c (d .cells) → Near c
+  pub after : {S : ℕ} {grid gridAfter : List ℕ} → Drawable S o →
+      ((c : Cell) → List·Memᴰ c (d .cells) → Holds S o grid gridAfter c) → After S grid gridAfter
 
 -- A drawing that comes to the cells of its samples.
 module _ {S : ℕ} (o : Object) (d : Drawable S o) where
@@ -73,6 +77,19 @@ module _ {S : ℕ} (o : Object) (d : Drawable S o) where
   cells-after holds =
       just-drawn d (λ is s.
       holds (cellOf o is) (cells-are o (cellOf o is) .1 (record { sample = is; is-sample = s; is-its-cell = refl })))
+
+-- By whatever order, if document 01's accepts what it accepts.
+samples-supplied : (side : ℕ) (o : Object) (v : ℕ → Verdict) → ((len : ℕ) → v len ≡ accepted → drawVerdict side len o ≡ accepted) →
+    Supplied (judgedBy v (drawingOf side o)) o (NearSample o) (λ S. JustDrawn S o)
+samples-supplied side o v main = record {
+  mark = refl;
+  choice = refl;
+  drawable = λ len e. draw-accepted side o len .0 (main len e) .0;
+  fits = λ len e. let f = drawing-fits side o len (main len e) in
+      record { cube = f .cube; mark = f .mark; inside = f .inside };
+  near = λ d. cells-near o d;
+  after = λ d. cells-after o d;
+}
 
 -- A drawing that comes to the cells of a path.
 module _ {S : ℕ} (n : ℕ) (points : List ℕ) (mark : ℕ) (choice : Choice) (d : Drawable S (curve n points mark choice)) where
@@ -95,42 +112,10 @@ module _ {S : ℕ} (n : ℕ) (points : List ℕ) (mark : ℕ) (choice : Choice) 
       at-sample : (is : List ℕ) → Sample (n ∷ []) is → Holds S o grid gridAfter (cellOf o is)
       at-sample _ (index h no-index) = holds _ (on-path .every-sample _ h)
 
--- Every call does.
-pub supplied : (call : Call) → Supplied call
-supplied (draw-curve side n points mark choice) =
+path-supplied : (side n : ℕ) (points : List ℕ) (mark : ℕ) (choice : Choice) →
     let o : Object = curve n points mark choice in
-    record {
-      mark = refl;
-      choice = refl;
-      drawable = λ len e. draw-accepted side o len .0 e .0;
-      fits = drawing-fits side o;
-      near = λ d c m. cells-near o d c m;
-      after = λ d holds. cells-after o d holds;
-    }
-supplied (draw-patch side n m points mark choice) =
-    let o : Object = patch n m points mark choice in
-    record {
-      mark = refl;
-      choice = refl;
-      drawable = λ len e. draw-accepted side o len .0 e .0;
-      fits = drawing-fits side o;
-      near = λ d c m. cells-near o d c m;
-      after = λ d holds. cells-after o d holds;
-    }
-supplied (draw-chosen side points mark choice) =
-    let o : Object = chosenCurve points mark choice in
-    let as-drawn : (len : ℕ) → Accepted len (draw-chosen side points mark choice) → drawVerdict side len o ≡ accepted =
-    λ len e. accepted-as-drawn side points mark choice len .0 e in
-    record {
-      mark = refl;
-      choice = refl;
-      drawable = λ len e. draw-accepted side o len .0 (as-drawn len e) .0;
-      fits = λ len e. let f = drawing-fits side o len (as-drawn len e) in
-          record { cube = f .cube; mark = f .mark; inside = f .inside };
-      near = λ d c m. cells-near o d c m;
-      after = λ d holds. cells-after o d holds;
-    }
-supplied (draw-path side n points mark choice) = record {
+    Supplied (pathDrawing side o) o (λ c. NearSample o c ⊎ NearInserted o c) (λ S. PathJustDrawn S o)
+path-supplied side n points mark choice = record {
   mark = refl;
   choice = refl;
   drawable = λ len e. draw-accepted side (curve n points mark choice) len .0 e .0;
@@ -138,3 +123,15 @@ supplied (draw-path side n points mark choice) = record {
   near = λ d. face-to-face n points mark choice d .near;
   after = λ d holds. path-after n points mark choice d holds;
 }
+
+-- Every call's drawing does.
+pub supplied : (call : Call) → Supplied (drawingBy call) (objectOf call) (Near call) (After call)
+supplied (draw-curve side n points mark choice) = samples-supplied side (curve n points mark choice) _ (λ len e. e)
+supplied (draw-patch side n m points mark choice) = samples-supplied side (patch n m points mark choice) _ (λ len e. e)
+supplied (draw-chosen side points mark choice) =
+    samples-supplied side (chosenCurve points mark choice) _ (λ len e. accepted-as-drawn side points mark choice len .0 e)
+supplied (draw-path side n points mark choice) = path-supplied side n points mark choice
+supplied (draw-strip-curve side n points mark choice) =
+    let o : Object = curve n points mark choice in samples-supplied side o _ (λ len e. accepted-by-main side len o e)
+supplied (draw-strip-patch side n m points mark choice) =
+    let o : Object = patch n m points mark choice in samples-supplied side o _ (λ len e. accepted-by-main side len o e)

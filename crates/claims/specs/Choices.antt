@@ -13,7 +13,8 @@ use Rattle.drawing.specs.Drawing.{marked, Drawing, drawnBy, listingOf}
 use Rattle.drawing.specs.NewCells.{newCells}
 use Rattle.path.specs.Path.{pathListing}
 use Rattle.sheet.specs.Sheet.{Stroke, objectOf}
-use Rattle.claims.specs.Demand3.{Call, draw-curve, draw-patch, draw-chosen, draw-path, drawingBy, Accepted}
+use Rattle.claims.specs.Demand3.{Call, draw-curve, draw-patch, draw-chosen, draw-path, draw-strip-curve, draw-strip-patch}
+use Rattle.claims.specs.Demand3.{drawingBy, Accepted}
 
 -- What an accepted drawing, of whatever kind, does to the cells of its cube. Under, a cell that was marked holds what it held;
 -- one of the drawing's cells that was unmarked holds the mark. Over, each of the drawing's cells holds the mark. Either way no
@@ -36,6 +37,8 @@ goingBy choice (draw-curve side n points mark _) = draw-curve side n points mark
 goingBy choice (draw-patch side n m points mark _) = draw-patch side n m points mark choice
 goingBy choice (draw-chosen side points mark _) = draw-chosen side points mark choice
 goingBy choice (draw-path side n points mark _) = draw-path side n points mark choice
+goingBy choice (draw-strip-curve side n points mark _) = draw-strip-curve side n points mark choice
+goingBy choice (draw-strip-patch side n m points mark _) = draw-strip-patch side n m points mark choice
 
 -- What goes by no choice in a call that draws: its refusals, and how many cells are new, whether it is accepted or refused.
 pub record ByNoChoice (call : Call) (choice : Choice) : Type 0 where

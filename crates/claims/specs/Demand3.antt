@@ -1,4 +1,4 @@
--- Demand 3, with "The words of demand 3" of document 01 and document 02's A.6, A.8 and A.11: one claim about a whole list of
+-- Demand 3, with "The words of demand 3" of document 01 and document 02's A.6, A.8, A.9 and A.11: one claim about a whole list of
 -- calls that draw into one cube, over or under.
 use mathlib.Core.Path.{_≡_}
 use mathlib.Core.Logic.{_⊎_}
@@ -17,26 +17,34 @@ use Rattle.drawing.specs.Object.{Object, curve, patch, scaleOf, exact, cellOf}
 use Rattle.drawing.specs.Drawing.{cells, Drawing, drawingOf, drawnBy, inTurn}
 use Rattle.chosen.specs.Chosen.{chosenCurve, chosenDrawing}
 use Rattle.path.specs.Path.{moves, path, ShareFace, withinOneAndAHalf, pathDrawing}
+use Rattle.strip.specs.Strip.{stripDrawing}
 
--- The list holds curve draws, patch draws, curve draws with a chosen count and face-to-face curve draws, each with any side and
--- any record. A draw with a chosen count has no n: its object is the curve with the chosen one.
+-- The list holds curve draws, patch draws, curve draws with a chosen count, face-to-face curve draws, and curve draws and patch
+-- draws on the strip, each with any side and any record. A draw with a chosen count has no n: its object is the curve with the
+-- chosen one.
 pub data Call : Type 0 where
   draw-curve : (side n : ℕ) (points : List ℕ) (mark : ℕ) (choice : Choice) → Call
   draw-patch : (side n m : ℕ) (points : List ℕ) (mark : ℕ) (choice : Choice) → Call
   draw-chosen : (side : ℕ) (points : List ℕ) (mark : ℕ) (choice : Choice) → Call
   draw-path : (side n : ℕ) (points : List ℕ) (mark : ℕ) (choice : Choice) → Call
+  draw-strip-curve : (side n : ℕ) (points : List ℕ) (mark : ℕ) (choice : Choice) → Call
+  draw-strip-patch : (side n m : ℕ) (points : List ℕ) (mark : ℕ) (choice : Choice) → Call
 
 abbrev pub drawingBy : Call → Drawing
 drawingBy (draw-curve side n points mark choice) = drawingOf side (curve n points mark choice)
 drawingBy (draw-patch side n m points mark choice) = drawingOf side (patch n m points mark choice)
 drawingBy (draw-chosen side points mark choice) = chosenDrawing side points mark choice
 drawingBy (draw-path side n points mark choice) = pathDrawing side (curve n points mark choice)
+drawingBy (draw-strip-curve side n points mark choice) = stripDrawing side (curve n points mark choice)
+drawingBy (draw-strip-patch side n m points mark choice) = stripDrawing side (patch n m points mark choice)
 
 abbrev pub objectOf : Call → Object
 objectOf (draw-curve side n points mark choice) = curve n points mark choice
 objectOf (draw-patch side n m points mark choice) = patch n m points mark choice
 objectOf (draw-chosen side points mark choice) = chosenCurve points mark choice
 objectOf (draw-path side n points mark choice) = curve n points mark choice
+objectOf (draw-strip-curve side n points mark choice) = curve n points mark choice
+objectOf (draw-strip-patch side n m points mark choice) = patch n m points mark choice
 
 -- Of face-to-face curves the accuracy rule says the one thing, and of every other kind the other.
 abbrev pub byKind : Call → (ofPaths ofOthers : Type 0) → Type 0
@@ -44,6 +52,8 @@ byKind (draw-curve side n points mark choice) ofPaths ofOthers = ofOthers
 byKind (draw-patch side n m points mark choice) ofPaths ofOthers = ofOthers
 byKind (draw-chosen side points mark choice) ofPaths ofOthers = ofOthers
 byKind (draw-path side n points mark choice) ofPaths ofOthers = ofPaths
+byKind (draw-strip-curve side n points mark choice) ofPaths ofOthers = ofOthers
+byKind (draw-strip-patch side n m points mark choice) ofPaths ofOthers = ofOthers
 
 -- The grid after a list of calls, refused ones included.
 unfoldable pub run : List Call → List ℕ → List ℕ

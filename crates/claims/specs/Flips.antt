@@ -23,6 +23,7 @@ use Rattle.chosen.specs.declared.CountAnswer.{CountAnswer}
 use Rattle.chosen.specs.Chosen.{chosen, countVerdict, countAnswerOf, chosenDrawing}
 use Rattle.patch.specs.declared.Patch.{Patch}
 use Rattle.patch.specs.Patch.{patchOf}
+use Rattle.strip.specs.Strip.{stripDrawing}
 use Rattle.flip.specs.Flip.{reversed, flippedCurve, flippedPatch}
 use Rattle.flip.specs.Listings.{Agree, KeepsRest}
 use Rattle.claims.specs.Known.{alongX, curve-of, cells, holds}
@@ -50,8 +51,9 @@ pub record CurveFlip (S : ℕ) (c : Curve) : Type 0 where
   pub listings : {list back listNow backNow : List ℕ} {r s : ListAnswer} → length list ≡ length back →
       Lists (listingOf S (curveOf c)) list listNow r → Lists (listingOf S (curveOf (flippedCurve c))) back backNow s →
       ListInReverse list back listNow backNow r s
-  -- The drawings, over or under.
+  -- The drawings, over or under, and those on the strip (A.9).
   pub drawings : DrawTheSame (drawingOf S (curveOf c)) (drawingOf S (curveOf (flippedCurve c)))
+  pub strip-drawings : DrawTheSame (stripDrawing S (curveOf c)) (stripDrawing S (curveOf (flippedCurve c)))
   -- The checks, with whether the step test quit (A.5).
   pub checks : {r s : CheckAnswer} →
       checkAnswerOf r ≡ outcome (checkVerdict S (curveOf c)) (quits (c .points) (c .steps)) →
@@ -73,6 +75,7 @@ pub record PatchFlip (S : ℕ) (p : Patch) : Type 0 where
       exact (patchOf (flippedPatch p)) a (j ∷ i ∷ []) ≡ exact (patchOf p) a (i ∷ j ∷ [])
   pub cells : (i j : ℕ) → i ≤ p .n → j ≤ p .m → cellOf (patchOf (flippedPatch p)) (j ∷ i ∷ []) ≡ cellOf (patchOf p) (i ∷ j ∷ [])
   pub drawings : DrawTheSame (drawingOf S (patchOf p)) (drawingOf S (patchOf (flippedPatch p)))
+  pub strip-drawings : DrawTheSame (stripDrawing S (patchOf p)) (stripDrawing S (patchOf (flippedPatch p)))
   pub checks : {r s : decided.Verdict} → verdictOf r ≡ checkVerdict S (patchOf p) →
       verdictOf s ≡ checkVerdict S (patchOf (flippedPatch p)) → r ≡ s
 

@@ -3,7 +3,7 @@
 -- draws a sheet. `Totals`: what a sheet's totals add up to. `Slits`: neighbouring samples have cells next to each other.
 -- `NewCells`: the new cells of a drawing and of a sheet. `Choices`: strokes that go over and strokes that go under.
 -- `Quits`: where the long-step test of a curve quits. `Chosen`: the step count that the box chooses.
--- `Flips`: a flip is harmless. `Paths`: face-to-face curves.
+-- `Flips`: a flip is harmless. `Paths`: face-to-face curves. `Strip`: the preview strip beside the main path.
 pub mod Known
 pub mod Demand3
 pub mod Strokes
@@ -17,3 +17,4 @@ pub mod Quits
 pub mod Chosen
 pub mod Flips
 pub mod Paths
+pub mod Strip

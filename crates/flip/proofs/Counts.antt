@@ -1,6 +1,6 @@
 -- A curve and its flip have the same gaps, so the step test quits for both or for neither; and the box chooses the same count
 -- for both.
-use mathlib.Core.Path.{_≡_, refl, sym, _∙_, subst}
+use mathlib.Core.Path.{_≡_, sym, _∙_, subst}
 use mathlib.Core.List.{List}
 use Prim.Native.Nat.{ℕ}
 use native.Mathlib.Omega.{arith}
@@ -12,10 +12,11 @@ use Rattle.drawing.specs.declared.Choice.the-variants.{Over}
 use Rattle.drawing.specs.Object.{curve, coordinate}
 use Rattle.drawing.specs.Refusals.{coordinateOut}
 use Rattle.gaps.specs.Gaps.{gap, gapAfter, gapAlong, largestGap, quits}
+use Rattle.scan.proofs.Alike.{Alike}
 use Rattle.chosen.specs.Chosen.{refusesCount, chosen, chosenOrder, countVerdict, chosenCurve, chosenDrawing}
 use Rattle.chosen.proofs.Least.{from-1, is-accepted, none-smaller, smallest-is}
 use Rattle.flip.specs.Flip.{reversed}
-use Rattle.flip.proofs.Samples.{Reordered, same-long, same-cells, Alike}
+use Rattle.flip.proofs.Samples.{Reordered, same-long, judged-alike}
 use Rattle.flip.proofs.Curves.{point-reversed, curve-reordered}
 
 -- The gap is the same from either end.
@@ -79,13 +80,4 @@ module _ (points : List ℕ) (h : length points ≡ 12) where
   -- And do the same.
   pub chosen-alike : (S mark : ℕ) (choice : Choice) →
       Alike (chosenDrawing S points mark choice) (chosenDrawing S (reversed points) mark choice)
-  chosen-alike S mark choice =
-      let w = chosen-reordered mark choice in
-      record {
-        side = refl;
-        cells = same-cells w;
-        mark = refl;
-        choice = refl;
-        answer = w .so-many;
-        verdict = same-chosen-verdict S mark choice;
-      }
+  chosen-alike S mark choice = judged-alike S (chosen-reordered mark choice) _ _ (same-chosen-verdict S mark choice)

@@ -93,7 +93,8 @@ module _ (n : ℕ) (mark : ℕ) (choice : Choice) where
         (reversed-among (reversed points));
     mark = refl;
     choice = refl;
-    counts = refl;
+    most = refl;
+    counts = λ test. refl;
     coordinates = λ S. sym (same-found points reversedNumbers reversed-involution h (coordinateOut S));
     so-many = refl;
   }

@@ -1,7 +1,7 @@
 -- A patch and its flip have the same samples, with the two indices exchanged. What is said of samples is said of the first two
 -- parameters, whatever parameters come after them.
 use mathlib.Core.Path.{_≡_, refl, sym, _∙_, ap, subst}
-use mathlib.Core.Logic.{_⊎_, inl, inr, ⊎-elim}
+use mathlib.Core.Logic.{inl, inr, ⊎-elim}
 use mathlib.Core.Bool.{Bool, false, not}
 use mathlib.Core.List.{List, [], _∷_}
 use Prim.Native.Nat.{ℕ, _+_, _*_, _≤_, _<_}
@@ -17,7 +17,7 @@ use Rattle.neighbours.specs.Steps.{Neighbours, first, later}
 use Rattle.cube.specs.Cube.{Axis}
 use Rattle.drawing.specs.declared.Choice.{Choice}
 use Rattle.drawing.specs.Object.{patch, coordinate, exact, cellOf}
-use Rattle.drawing.specs.Refusals.{countOut, coordinateOut, sampleCount}
+use Rattle.drawing.specs.Refusals.{coordinateOut, sampleCount}
 use Rattle.flip.specs.Flip.{transposedNumbers, exchanged}
 use Rattle.flip.proofs.Points.{point-at, Involution, unpaired, involution, points-twice, same-found}
 use Rattle.flip.proofs.Samples.{Among, same-cell, Reordered}
@@ -130,7 +130,8 @@ module _ (mark : ℕ) (choice : Choice) where
         (exchanged-among m n (exchanged points));
     mark = refl;
     choice = refl;
-    counts = same-test _ _ (found-swapped (countOut 256) n m []) (found-swapped (countOut 256) m n []);
+    most = refl;
+    counts = λ test. same-test _ _ (found-swapped test n m []) (found-swapped test m n []);
     coordinates = λ S. sym (same-found points transposedNumbers transposed-involution h (coordinateOut S));
     so-many = count-swapped n m [];
   }

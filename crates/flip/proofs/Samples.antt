@@ -1,28 +1,26 @@
 -- Objects with the same samples in another order: the same refusals, and drawings that do the same.
-use mathlib.Core.Path.{_≡_, refl, sym, _∙_, ap, fun-ext, subst}
+use mathlib.Core.Path.{_≡_, refl, _∙_, ap, fun-ext, subst}
 use mathlib.Core.Logic.{_↔_, _⊎_, ⊎-elim}
 use mathlib.Core.Bool.{Bool, false, not}
 use mathlib.Core.List.{List, List·Memᴰ}
 use Prim.Native.Nat.{ℕ, _*_}
 use lib.Dec.{T, ltb, eqb}
-use lib.ListN.{length}
 use Rattle.bezier.specs.Exact.{Sample}
 use Rattle.decide.specs.Some.{someOf}
-use Rattle.decide.specs.Refusal.{firstThat}
+use Rattle.decide.specs.Refusal.{Verdict, firstThat}
 use Rattle.decide.proofs.Truth.{same-test}
-use Rattle.decide.proofs.Refusal.{by-verdict}
 use Rattle.neighbours.specs.Steps.{farApart, Neighbours, LongStep}
 use Rattle.neighbours.proofs.Long.{far-either-way}
 use Rattle.neighbours.proofs.Pairs.{neighbours-pairs}
 use Rattle.cube.specs.Cube.{Axis, Cell, volume}
 use Rattle.drawing.specs.Object.{Object, scaleOf, exact, cellOf}
-use Rattle.drawing.specs.Refusals.{countOut, coordinateOut, stepsTooLong, sampleCount, order, drawVerdict, listVerdict, checkVerdict}
-use Rattle.drawing.specs.Drawing.{cells, Drawing, drawingOf, drawnBy}
+use Rattle.drawing.specs.Refusals.{countOut, coordinateOut, stepsTooLong, sampleCount}
+use Rattle.drawing.specs.Refusals.{order, drawingOrder, drawVerdict, listVerdict, checkVerdict}
+use Rattle.drawing.specs.Drawing.{cells, drawingOf, judgedBy}
 use Rattle.drawing.proofs.Accepted.{steps-too-long}
-use Rattle.drawing.proofs.Drawn.{cells-are, drawn-refused, drawn-accepted, drawn-in-any-order}
-use Rattle.scan.specs.declared.answer.DrawAnswer.{DrawAnswer}
-use Rattle.scan.specs.Answer.{Draws}
-use Rattle.scan.proofs.Unique.{grid-unique, draw-answer-unique}
+use Rattle.drawing.proofs.Drawn.{cells-are}
+use Rattle.scan.proofs.Alike.{Alike}
+use Rattle.strip.specs.Strip.{countAbove, stripOrder, stripVerdict, stripDrawing}
 
 -- Every sample of o is one of p, with the same exact value, and neighbours are neighbours, one way round or the other.
 pub record Among (o p : Object) : Type 0 where
@@ -71,13 +69,14 @@ module _ {o p : Object} (w : Among o p) where
   too-long-among : T (stepsTooLong o) → T (stepsTooLong p)
   too-long-among t = let l = steps-too-long o .0 t in steps-too-long p .1 (l .0, long-among (l .0) (l .1))
 
--- The same samples in another order, with the same mark and choice; 13 and 14 find the same.
+-- The same samples in another order, with the same mark and choice; every test of the counts finds the same, and so does 14.
 pub record Reordered (o p : Object) : Type 0 where
   pub there : Among o p
   pub back : Among p o
   pub mark : o .mark ≡ p .mark
   pub choice : o .choice ≡ p .choice
-  pub counts : someOf (countOut (o .most)) (o .counts) ≡ someOf (countOut (p .most)) (p .counts)
+  pub most : o .most ≡ p .most
+  pub counts : (test : ℕ → Bool) → someOf test (o .counts) ≡ someOf test (p .counts)
   pub coordinates : (S : ℕ) → someOf (coordinateOut S) (o .points) ≡ someOf (coordinateOut S) (p .points)
   pub so-many : sampleCount (o .counts) ≡ sampleCount (p .counts)
 
@@ -86,69 +85,54 @@ module _ {o p : Object} (w : Reordered o p) where
   pub same-long : stepsTooLong o ≡ stepsTooLong p
   same-long = same-test (stepsTooLong o) (stepsTooLong p) (too-long-among (w .there)) (too-long-among (w .back))
 
-  -- So every order answers the same.
-  same-order : (S : ℕ) (g m l : Bool) → firstThat (order S o g m l) ≡ firstThat (order S p g m l)
+  -- So every order is the same.
+  same-order : (S : ℕ) (g m l : Bool) → order S o g m l ≡ order S p g m l
   unfolding order
-  same-order S g m l = rw (w .counts, w .coordinates S, same-long)
+  same-order S g m l = rw (same-long, w .coordinates S, w .most, w .counts (countOut (p .most)))
 
-  pub same-draw-verdict : (S gridLength : ℕ) → drawVerdict S gridLength o ≡ drawVerdict S gridLength p
-  unfolding drawVerdict
-  same-draw-verdict S gridLength =
+  same-drawing-order : (S gridLength : ℕ) → drawingOrder S gridLength o ≡ drawingOrder S gridLength p
+  same-drawing-order S gridLength =
       let gridWrong : Bool = not (eqb gridLength (volume S)) in
-      same-order S gridWrong (eqb (o .mark) 0) false ∙
-      ap (λ m. firstThat (order S p gridWrong (eqb m 0) false)) (w .mark)
+      same-order S gridWrong (eqb (o .mark) 0) false ∙ ap (λ m. order S p gridWrong (eqb m 0) false) (w .mark)
+
+  same-draw-verdict : (S gridLength : ℕ) → drawVerdict S gridLength o ≡ drawVerdict S gridLength p
+  unfolding drawVerdict
+  same-draw-verdict S gridLength = ap firstThat (same-drawing-order S gridLength)
+
+  same-strip-verdict : (S gridLength : ℕ) → stripVerdict S gridLength o ≡ stripVerdict S gridLength p
+  unfolding stripOrder stripVerdict
+  same-strip-verdict S gridLength = rw (same-drawing-order S gridLength, w .counts countAbove)
 
   pub same-list-verdict : (S listLength : ℕ) → listVerdict S listLength o ≡ listVerdict S listLength p
   unfolding listVerdict
   same-list-verdict S listLength =
-      same-order S false false (ltb listLength (3 * sampleCount (o .counts))) ∙
-      ap (λ k. firstThat (order S p false false (ltb listLength (3 * k)))) (w .so-many)
+      ap firstThat (same-order S false false (ltb listLength (3 * sampleCount (o .counts))) ∙
+      ap (λ k. order S p false false (ltb listLength (3 * k))) (w .so-many))
 
   pub same-check-verdict : (S : ℕ) → checkVerdict S o ≡ checkVerdict S p
   unfolding checkVerdict
-  same-check-verdict S = same-order S false false false
+  same-check-verdict S = ap firstThat (same-order S false false false)
 
   -- And the cells are the same.
   pub same-cells : (c : Cell) → List·Memᴰ c (cells o) ↔ List·Memᴰ c (cells p)
   same-cells c = (among-cells (w .there) c, among-cells (w .back) c)
 
--- Two drawings, of whatever kind, that come to the same cells, in whatever order, with the same mark and choice, and with the same
--- verdicts and number to answer.
-pub record Alike (d e : Drawing) : Type 0 where
-  pub side : d .side ≡ e .side
-  pub cells : (c : Cell) → List·Memᴰ c (d .cells) ↔ List·Memᴰ c (e .cells)
-  pub mark : d .mark ≡ e .mark
-  pub choice : d .choice ≡ e .choice
-  pub answer : d .answer ≡ e .answer
-  pub verdict : (gridLength : ℕ) → d .verdict gridLength ≡ e .verdict gridLength
-
--- Document 01's of objects with the same samples.
-pub drawings-alike : (S : ℕ) {o p : Object} → Reordered o p → Alike (drawingOf S o) (drawingOf S p)
-drawings-alike S w = record {
-  side = refl;
-  cells = same-cells w;
-  mark = w .mark;
-  choice = w .choice;
-  answer = w .so-many;
-  verdict = same-draw-verdict w S;
-}
-
-module _ (d e : Drawing) (w : Alike d e) where
-  -- All cells get one mark, so that their order does not matter.
-  same-grid : (grid : List ℕ) → drawnBy d grid ≡ drawnBy e grid
-  same-grid grid =
-      by-verdict (d .verdict (length grid)) _
-      (λ a. sym (drawn-in-any-order d grid a (e .cells) (λ c. (w .cells c .1, w .cells c .0))) ∙
-      rw (w .side, w .mark, w .choice) (sym (drawn-accepted e grid (sym (w .verdict (length grid)) ∙ a))))
-      (λ k r. drawn-refused d grid r ∙ sym (drawn-refused e grid (sym (w .verdict (length grid)) ∙ r)))
-
-  -- What the one call answers and leaves is what the other would.
-  as-the-other : {grid gridNow : List ℕ} {r : DrawAnswer} → Draws d grid gridNow r → Draws e grid gridNow r
-  as-the-other {grid} c = record {
-    answer = c .answer ∙ rw (w .verdict (length grid), w .answer);
-    leaves = c .leaves ∙ same-grid grid;
+-- Drawings of objects with the same samples do the same, each with an order of its own that finds the same: document 01's order,
+-- and the strip's.
+module _ (S : ℕ) {o p : Object} (w : Reordered o p) where
+  pub judged-alike : (v u : ℕ → Verdict) → ((gridLength : ℕ) → v gridLength ≡ u gridLength) →
+      Alike (judgedBy v (drawingOf S o)) (judgedBy u (drawingOf S p))
+  judged-alike v u same = record {
+    side = refl;
+    cells = same-cells w;
+    mark = w .mark;
+    choice = w .choice;
+    answer = w .so-many;
+    verdict = same;
   }
 
-  pub draw-the-same : {grid one other : List ℕ} {r s : DrawAnswer} → Draws d grid one r → Draws e grid other s →
-      (r ≡ s) × (one ≡ other)
-  draw-the-same {grid} c f = (draw-answer-unique e grid (as-the-other c) f, grid-unique e grid (as-the-other c) f)
+  pub drawings-alike : Alike (drawingOf S o) (drawingOf S p)
+  drawings-alike = judged-alike _ _ (same-draw-verdict w S)
+
+  pub strips-alike : Alike (stripDrawing S o) (stripDrawing S p)
+  strips-alike = judged-alike _ _ (same-strip-verdict w S)
