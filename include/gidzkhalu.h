@@ -49,6 +49,8 @@ enum {
     GIDZKHALU_REFUSED_LONG_STEP = 15,       /* two neighbouring samples lie more than one cell apart on some axis */
     GIDZKHALU_REFUSED_LENGTH = 21,          /* the grid or cube is not side^3 bytes, or a sheet's buffer not 64000 */
     GIDZKHALU_REFUSED_SHORT = 22,           /* the list or the text is too short */
+    GIDZKHALU_REFUSED_STRIP_SIDE = 23,      /* on the strip: a side of 18 to 64 */
+    GIDZKHALU_REFUSED_STRIP_STEPS = 24,     /* on the strip: a step count above 64 that 13 lets pass */
     GIDZKHALU_REFUSED_NOT_FINITE = 31,      /* a channel, hue, saturation or value is infinite or no number */
     GIDZKHALU_REFUSED_CHANNEL = 32,         /* a channel, saturation or value is below 0 or above 1 */
     GIDZKHALU_REFUSED_HUE = 33,             /* a hue is below 0, or 6 or above */
@@ -73,6 +75,8 @@ enum {
     GIDZKHALU_CURVE_STEPS_MOST = 512,
     GIDZKHALU_CHOSEN_STEPS_MOST = 189,      /* of a step count that the box chooses */
     GIDZKHALU_PATCH_STEPS_MOST = 256,
+    GIDZKHALU_STRIP_SIDE_MOST = 17,
+    GIDZKHALU_STRIP_STEPS_MOST = 64,        /* along each parameter */
     GIDZKHALU_SHEET_CURVES_MOST = 200,
     GIDZKHALU_REFUSAL_NUMBER_MOST = 99999   /* of a refusal line's number and line */
 };
@@ -138,7 +142,7 @@ int64_t gidzkhalu_list_curve(uint32_t side, const uint8_t *points, size_t points
 /* Draws a curve, over or under, and writes the count of new cells, from 0 to steps + 1, into *new_cells. Answer:
    steps + 1.
    Refusals: 51, 55, 11, 21, 12, 13, 14, 15.
-   Stack: 209 bytes. Instructions: 19309. Environment: any. */
+   Stack: 257 bytes. Instructions: 19327. Environment: any. */
 int64_t gidzkhalu_draw_curve(uint32_t side, const uint8_t *points, size_t points_len, uint32_t steps, uint8_t mark,
                              uint32_t choice, uint8_t *grid, size_t grid_len, uint32_t *new_cells);
 
@@ -199,7 +203,7 @@ int64_t gidzkhalu_check_patch(uint32_t side, const uint8_t *points, size_t point
 /* Draws a patch, over or under, and writes the count of new cells, from 0 to (n + 1) (m + 1), into *new_cells. Answer:
    (n + 1) (m + 1).
    Refusals: 51, 55, 11, 21, 12, 13, 14, 15.
-   Stack: 1720 bytes. Instructions: 6526029. Environment: any. */
+   Stack: 1752 bytes. Instructions: 5892644. Environment: any. */
 int64_t gidzkhalu_draw_patch(uint32_t side, const uint8_t *points, size_t points_len, uint32_t n, uint32_t m,
                              uint8_t mark, uint32_t choice, uint8_t *grid, size_t grid_len, uint32_t *new_cells);
 
@@ -211,6 +215,24 @@ int64_t gidzkhalu_draw_patch(uint32_t side, const uint8_t *points, size_t points
    Stack: 8 bytes. Instructions: 76. Environment: any. */
 int64_t gidzkhalu_flip_patch(const uint8_t *points, size_t points_len, uint32_t *n, uint32_t *m, uint8_t *flipped,
                              size_t flipped_len);
+
+/* The strip: a curve or a patch as gidzkhalu_draw_curve and gidzkhalu_draw_patch draw it, with a side of 2 to 17 and at most
+   64 steps along each parameter. What is accepted here is accepted there, with the same answer, new cells and grid. A call
+   that is refused there is refused here, and one with a side above 17 or a step count above 64 is refused here in any case. */
+
+/* Draws a curve on the strip, over or under, and writes the count of new cells, from 0 to steps + 1, into *new_cells. Answer:
+   steps + 1.
+   Refusals: 51, 55, 11, 23, 21, 12, 13, 24, 14, 15.
+   Stack: 257 bytes. Instructions: 3530. Environment: any. */
+int64_t gidzkhalu_draw_strip_curve(uint32_t side, const uint8_t *points, size_t points_len, uint32_t steps, uint8_t mark,
+                                   uint32_t choice, uint8_t *grid, size_t grid_len, uint32_t *new_cells);
+
+/* Draws a patch on the strip, over or under, and writes the count of new cells, from 0 to (n + 1) (m + 1), into *new_cells.
+   Answer: (n + 1) (m + 1).
+   Refusals: 51, 55, 11, 23, 21, 12, 13, 24, 14, 15.
+   Stack: 1768 bytes. Instructions: 386714. Environment: any. */
+int64_t gidzkhalu_draw_strip_patch(uint32_t side, const uint8_t *points, size_t points_len, uint32_t n, uint32_t m,
+                                   uint8_t mark, uint32_t choice, uint8_t *grid, size_t grid_len, uint32_t *new_cells);
 
 /* Swatches: kind 0 is a colour, kind 1 a grey, kind 2 a hue with its saturation and value. A swatch's refusals, in the
    order in which they are tried:

@@ -18,6 +18,8 @@ use Rattle.scan.specs.declared.answer.Drawn.{Drawn}
 use Rattle.scan.specs.declared.answer.DrawAnswer.{DrawAnswer}
 use Rattle.scan.specs.declared.answer.ListAnswer.{ListAnswer}
 use Rattle.scan.specs.Answer.{drawAnswerOf, Draws, listAnswerOf, Lists}
+use Rattle.scan.proofs.Orders.{draws-refused}
+use Rattle.scan.proofs.Alike.{Alike, same-grid}
 use Rattle.flip.specs.Flip.{exchanged}
 use Rattle.exports.specs.Signed.{minus, signedOf, signed, otherLength, ownFirst}
 use Rattle.exports.specs.Records.{noChoice, recordOrder, drawOrder, Calls, ChecksBytes, answerOf, newCellsAfter, DrawsBytes}
@@ -142,6 +144,22 @@ module _ (size : ℕ) (points : List ℕ) (choice : ℕ) (d : Drawing) (grid : L
       new-outcome : (v : Verdict) (d : Drawn) (new : ℕ) → newCellsAfter (outcome v d) new ≡ refusal.leaves v (d .«new_cells») new
       new-outcome accepted d new = refl
       new-outcome (refused k) d new = refl
+
+  -- Refused by the call's own order.
+  pub own-number : {k new : ℕ} {r : ℤ} → length points ≡ size → choice ≤ 1 → d .verdict (length grid) ≡ refused k → r ≡ minus k →
+      DrawsBytes size points choice d grid grid new new r
+  own-number h c v e = right-drawing d h c refl (draws-refused d grid v) e refl
+
+  -- As another drawing that does the same.
+  pub as-another : (p : Drawing) → Alike p d → {after : List ℕ} {new newNow : ℕ} {r : ℤ} →
+      DrawsBytes size points choice p grid after new newNow r → DrawsBytes size points choice d grid after new newNow r
+  as-another p w t = record {
+    call = record {
+      answer = rw (← w .verdict (length grid), ← w .answer) (t .call .answer);
+      leaves = rw (← same-grid p d w grid) (t .call .leaves);
+    };
+    new-cells = rw (← w .verdict (length grid)) (t .new-cells);
+  }
 
 -- A flip: the record has its length or not, and what it is written to has the same or not.
 module _ (size : ℕ) (points flipped : List ℕ) where

@@ -9,4 +9,5 @@ mod listings;
 mod patches;
 mod sheets;
 mod signed;
+mod strips;
 mod swatches;
