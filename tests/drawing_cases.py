@@ -8,8 +8,9 @@ count of new cells is another number or a wrong drawing leaves another grid, for
 would have quit but for another number, to how many a wrong test would give another answer, how many chosen counts are three
 times the gap or less, to how many calls a wrong choice would give another answer, how many calls were made with a record
 and with its flip, with how many different records and how many that have a sample on a half, how many calls and flips would
-show a wrong flip, how many drawings of a path leave another grid from the other end, and to how many calls with a path a
-wrong way would give another answer, grid or list.  The forms of both are described in crates/drawing_cases/src.
+show a wrong flip, how many drawings of a path leave another grid from the other end, to how many calls with a path a
+wrong way would give another answer, grid or list, and to how many on the strip wrong bounds or another order would give
+another answer.  The forms of both are described in crates/drawing_cases/src.
 """
 
 import random
@@ -19,14 +20,16 @@ from itertools import combinations, permutations, product
 from math import prod
 
 from model import (
-    CHESSBOARD, HALVES_IN_BOTH_ROWS, K1_TO_K11, OF_THE_COUNT, OF_THE_DRAWING, OVER, PATH_ORDERS, PATHS_OF_K, SELDOM_WRONG,
-    THE_SAME_SAMPLES, UNDER, WRONG_CHECKS, WRONG_CHOSEN, WRONG_FLIPS, WRONG_PATH_WAYS, WRONG_WAYS, Answer, Chosen, Path,
-    Record, broken_chosen_laws, broken_laws, broken_path_laws, cells, cells_with_halves_to_even, cells_with_halves_up,
-    check_curve, check_refusal, choose_steps, chosen_count, chosen_told_apart, curve, demand_3, distances_line, draw,
-    draw_chosen, draw_path, enough, flip, from_cell_to_cell, grid_of_points, has_half, in_reverse, is_on_half, list_curve,
-    list_path, near_quitting, neighbour_distances, on_axis, other_end_line, patch, path, path_cells, place, places, quits,
-    refused_by, refuses_count, row, run, samples, steps_too_long, told_apart, unmarked, with_chosen_count,
-    with_other_choice, wrong_checks, wrong_flips, wrong_path_drawings, wrong_path_listings, wrong_searches,
+    CHESSBOARD, HALVES_IN_BOTH_ROWS, K1_TO_K11, OF_PATCHES, OF_THE_COUNT, OF_THE_DRAWING, OVER, PATH_ORDERS, PATHS_OF_K,
+    SELDOM_WRONG, STRIP_COUNTS, STRIP_ORDER, STRIP_REFUSALS, THE_SAME_SAMPLES, UNDER, WRONG_CHECKS, WRONG_CHOSEN,
+    WRONG_FLIPS, WRONG_PATH_WAYS, WRONG_STRIPS, WRONG_WAYS, Answer, Chosen, Path, Record, Strip, as_patch,
+    beside_each_other, broken_chosen_laws, broken_laws, broken_path_laws, broken_strip_laws, cells,
+    cells_with_halves_to_even, cells_with_halves_up, check_curve, check_refusal, choose_steps, chosen_count,
+    chosen_told_apart, curve, demand_3, distances_line, draw, draw_chosen, draw_path, draw_strip, enough, flip,
+    from_cell_to_cell, grid_of_points, has_half, in_reverse, is_on_half, list_curve, list_path, near_quitting,
+    neighbour_distances, on_axis, other_end_line, patch, path, path_cells, place, places, quits, refused_by, refuses_count,
+    row, run, samples, steps_too_long, told_apart, unmarked, with_chosen_count, with_other_choice, wrong_checks,
+    wrong_flips, wrong_path_drawings, wrong_path_listings, wrong_searches, wrong_strips,
 )  # fmt: skip
 from stored import answer_record, case_record, malformed, store
 
@@ -59,10 +62,11 @@ def count_chosen(side, record, lent):
 
 CALLS = {
     "D": draw, "L": list_curve, "C": curve_checked, "P": draw, "Q": patch_checked, "M": count_chosen, "W": draw_chosen,
-    "T": draw_path, "U": list_path,
+    "T": draw_path, "U": list_path, "G": draw_strip, "H": draw_strip,
 }  # fmt: skip
-ON_PATCHES, DRAWINGS, CHOOSING, WITH_PATHS = "PQ", "DPWT", "MW", "TU"
-CALLED_TWICE = [letter for letter in CALLS if letter not in WITH_PATHS]  # the flip rule does not speak of paths
+ON_PATCHES, DRAWINGS, CHOOSING, WITH_PATHS, ON_STRIP = "PQH", "DPWTGH", "MW", "TU", "GH"
+# The flip rule does not speak of paths, and the strip is called beside the main path.
+CALLED_TWICE = [letter for letter in CALLS if letter not in WITH_PATHS + ON_STRIP]
 
 
 def right_length(letter, side, n):
@@ -117,6 +121,7 @@ class Cases:
         self.flips_told = Counter()  # the calls and flips, by letter, number of parameters and wrong flip that they show
         self.other_end = Counter()  # the accepted drawings of a path, by whether one from the other end leaves the same
         self.paths_told = Counter()  # the calls with a path, by letter and the wrong ways that give another answer
+        self.strip_told = Counter()  # the calls on the strip, by letter and the wrong ways that give another answer
 
     def add(self, letter, numbers, answer, kind, form="d"):
         """One case with its answer."""
@@ -158,9 +163,9 @@ class Cases:
         if letter == "W":
             assert not broken_chosen_laws(side, record, lent, answer), record
             record = with_chosen_count(record) if drawn else record
-        elif letter in DRAWINGS and letter not in WITH_PATHS:
+        elif letter in DRAWINGS and letter not in WITH_PATHS + ON_STRIP:
             assert not broken_laws(side, record, lent, answer), record
-        elif letter != "T":
+        elif letter not in DRAWINGS:
             assert CALLS[letter](side, with_other_choice(record), lent) == answer, record
         if drawn:
             cells_of = path_cells if letter == "T" else cells
@@ -177,6 +182,9 @@ class Cases:
         self.on_half[letter] += answer.refusal is None and letter != "M" and has_half(record)
         if letter in WITH_PATHS:
             self.count_path(letter, side, record, lent, answer)
+        elif letter in ON_STRIP:
+            assert not broken_strip_laws(side, record, lent, answer), record
+            self.strip_told.update((letter, way) for way in wrong_strips(side, record, length, answer))
         else:
             self.call_flips(letter, side, called, lent, answer)
         return answer
@@ -1453,10 +1461,252 @@ def path_lines(cases):
         yield f"a path taken wrongly, {way}: seen by {' and '.join(seen)}"
 
 
+def strip_samples(cases):
+    """K1 to K11 on each axis and K12, on the strip and then on the main path from the other choice: no new cell."""
+    k12 = patch(grid_of_points(lambda i, j: (i + j, j, 0)), 4, 4, MARK)
+    named = [(k12, None, 1), (flip(k12), None, 8)]
+    for axis, (_, points, n, _, refusal) in product(range(3), K1_TO_K11):
+        named.append((curve(on_axis(axis, points), n, MARK), refusal, 8**axis))
+    for k, (record, refusal, stride) in enumerate(named):
+        record = record._replace(choice=CHOICES[k % 2])
+        on_strip, on_main = ("G", "D") if len(record.counts) == 1 else ("H", "P")
+        cases.fill(512)
+        assert cases.call(on_strip, 8, record).refusal == refusal
+        cases.show(0, stride)
+        if refusal is None and k % 3 == 0:
+            assert cases.call(on_main, 8, with_other_choice(record)._replace(mark=9)).new == 0
+
+
+STRIP_SIDES = 1, 2, 17, 18, 64, 65
+FEW_COUNTS = 0, 1, 64, 65  # of a patch, one of each two
+
+
+def strip_bounds(cases):
+    """Sides and counts at the ends of their ranges, each with each, of both choices, into grids of the right length.
+
+    The largest grids are lent with few counts alone, and elsewhere too few bytes.
+    """
+    def called(letter, side, record, few, expected):
+        length = min(side**3, BUFFER) if side < 20 or few else 4913
+        if expected is None:
+            cases.fill(length, 0, 64)
+        assert cases.call(letter, side, record, length).refusal == expected
+
+    cases.fill(6859, 0, 64)
+    for side, n, choice in product(STRIP_SIDES, STRIP_COUNTS, CHOICES):
+        expected = STRIP_REFUSALS["side"][side] or STRIP_REFUSALS[1][n]
+        called("G", side, beside_each_other(1, n, MARK, choice), n in (1, 65) and choice == OVER, expected)
+    for k, (side, n, m) in enumerate(product(STRIP_SIDES, STRIP_COUNTS, STRIP_COUNTS)):
+        if n not in FEW_COUNTS and m not in FEW_COUNTS:
+            continue
+        refused = {STRIP_REFUSALS[2][n], STRIP_REFUSALS[2][m]}
+        expected = STRIP_REFUSALS["side"][side] or next((number for number in (13, 24) if number in refused), None)
+        for choice in CHOICES if side in (2, 17) and (n + 1) * (m + 1) < 600 else CHOICES[k % 2 : k % 2 + 1]:
+            called("H", side, beside_each_other(2, n, MARK, choice, m), (n, m) in ((1, 1), (65, 1)), expected)
+    for side, of_side in STRIP_REFUSALS["side"].items():
+        if side not in STRIP_SIDES:
+            for letter, choice in product(ON_STRIP, CHOICES):
+                record = beside_each_other(1 + (letter == "H"), 64, MARK, choice)
+                called(letter, side, record, choice == UNDER, of_side)
+
+
+# For each number, four ways to make it apply to a call on the strip with side 8 and counts 1 of a record in one cell.
+STRIP_FAULTS = {
+    11: ({"side": 65}, {"side": 1}, {"side": 0}, {"side": LARGEST}),
+    23: ({"side": 18}, {"side": 33}, {"side": 19}, {"side": 40}),
+    21: ({"longer": -1}, {"longer": 1}, {"length": 0}, {"length": 27}),
+    12: ({"mark": 0},) * 4,
+    13: ({"n": 0}, {"n": 513}, {"n": LARGEST}, {"n": 576}),
+    24: ({"n": 65}, {"n": 512}, {"n": 256}, {"n": 128}),
+    14: ({"out": 0}, {"out": 255}, {"out": 0}, {"out": 1}),
+    15: ({"x": 2}, {"x": 7}, {"x": 3}, {"x": 5}),
+}
+STRIP_PATCH_FAULTS = {
+    **STRIP_FAULTS,
+    13: ({"n": 257}, {"m": 0}, {"n": 0}, {"m": 513}),
+    24: ({"m": 65}, {"n": 65}, {"m": 256}, {"n": 128}),
+}
+
+
+def strip_with_faults(cases, letter, faults, numbers, way):
+    """A call on the strip with the faults of some numbers, given in their order: the first is answered.
+
+    A curve of so many steps that 13 or 24 applies has a long step only past the cube.
+    """
+    call = {"side": 8, "n": 1, "m": 1, "mark": MARK, "choice": CHOICES[way % 2], "x": 0, "z": 0, "longer": 0}
+    for number in numbers:
+        call.update(faults[number][way])
+    if "out" in call:
+        call["z"] = min(255, call["side"] + call["out"])
+    if letter == "G" and 15 in numbers and call["n"] > 1:
+        call["x"] = 255
+    length = call.get("length", max(0, min(call["side"] ** 3, BUFFER - 1) + call["longer"]))
+    record = (faulty_patch if letter == "H" else faulty_curve)(call)
+    assert cases.call(letter, call["side"], record, length).refusal == next(iter(numbers), None), (numbers, way)
+
+
+def strip_refusals(cases):
+    """Each call with up to two of the faults in four ways, with three in two, and with as many as there can be."""
+    cases.fill(64001, 1, 1)
+    for letter, faults in ("G", STRIP_FAULTS), ("H", STRIP_PATCH_FAULTS):
+        for size, ways in (0, 4), (1, 4), (2, 4), (3, 2), (6, 2), (7, 2):
+            for numbers in combinations(STRIP_ORDER, size):
+                if {11, 23} <= {*numbers} or letter == "G" and {13, 24} <= {*numbers}:
+                    continue  # one side, and of a curve one count, has one of them
+                if size > 3 and not {21, 12, 14, 15} <= {*numbers}:
+                    continue
+                for way in range(ways):
+                    strip_with_faults(cases, letter, faults, numbers, way)
+    for n, m in (65, 0), (0, 65), (65, 257), (257, 65), (65, LARGEST), (LARGEST, 65), (513, 513), (64, 257), (257, 64):
+        assert cases.call("H", 8, beside_each_other(2, n, MARK, m=m)).refusal == 13
+    for side in 18, 19, 64:  # whatever the grid is
+        for letter, length in product(ON_STRIP, (0, 1, 4913, 5831, 5832, 5833)):
+            assert cases.call(letter, side, beside_each_other(1 + (letter == "H"), 1, MARK), length).refusal == 23
+
+
+def strip_limits(cases):
+    """Grids of other lengths, each coordinate at and past the end of the cube, and the ends of marks."""
+    for letter, side in product(ON_STRIP, (2, 3, 8, 16, 17)):
+        cases.fill(5832, 3, 7)
+        for length in 0, 1, side**2, (side - 1) ** 3, side**3 - 1, side**3, side**3 + 1, (side + 1) ** 3:
+            record = beside_each_other(1 + (letter == "H"), 1, MARK, CHOICES[side % 2])
+            assert cases.call(letter, side, record, length).refusal == (None if length == side**3 else 21)
+    cases.fill(4913)
+    for k, c in product(range(12), (16, 17)):
+        record = curve([c if k == position else 0 for position in range(12)], 64, 1 + k, CHOICES[k % 2])
+        assert cases.call("G", 17, record).refusal == (14 if c == 17 else None)
+    cases.fill(27)
+    for k, c in product(range(48), (2, 3)):
+        record = patch([c if k == position else 0 for position in range(48)], 6, 7, 1 + k, CHOICES[k % 2])
+        assert cases.call("H", 3, record).refusal == (14 if c == 3 else None)
+    for letter, mark, choice in product(ON_STRIP, (0, 1, 255), CHOICES):
+        cases.fill(8, 255, 255)
+        record = beside_each_other(1 + (letter == "H"), 1, mark, choice)
+        assert cases.call(letter, 2, record).refusal == (None if mark else 12)
+        cases.show()
+
+
+def large_on_strip(cases):
+    """All over the largest cube of the strip, with the most steps; with one step more; and long steps with fewer."""
+    def bent(i, j):
+        return 5 * i, 5 * j + (i == 1), (2 * i + 3 * j) % 17
+
+    def flat(i, j):
+        return 16 * (i > 1), 16 * (j > 1), 8
+
+    wide = curve([c for g in (0, 16, 0, 16) for c in (g, 16 - g, g)], 64, MARK)
+    over_all = [patch(grid_of_points(coordinate), 64, 64, 9) for coordinate in (bent, flat)]
+    for choice, (first, step) in product(CHOICES, ((0, 0), (0, 64))):
+        cases.fill(4913, first, step)
+        for record in wide, *over_all:
+            letter = "G" if len(record.counts) == 1 else "H"
+            record = record._replace(choice=choice)
+            assert cases.call(letter, 17, record).refusal is None
+            for at in range(len(record.counts)):
+                for n, refusal in (65, 24), (4, 15):
+                    other = record._replace(counts=(*record.counts[:at], n, *record.counts[at + 1 :]))
+                    assert cases.call(letter, 17, other).refusal == refusal
+        cases.show(0, 307)
+
+
+def strip_over_and_under(cases):
+    """A record on the strip, on the main path and from its other end, in turn, by every two choices."""
+    across = [0, 0, 0, 1, 1, 1, 2, 2, 2, 3, 3, 3]
+    for choices in product(CHOICES, repeat=2):
+        for letters, record in ("GD", curve(across, 3, 9)), ("HP", plane(2, 1, high=(3, 3), mark=9)):
+            for turns in letters, letters[::-1], letters[0] * 2:
+                cases.fill(64)
+                of_record = len(places(4, record))
+                first = cases.call(turns[0], 4, record._replace(choice=choices[0]))
+                second = cases.call(turns[1], 4, flip(record)._replace(mark=255, choice=choices[1]))
+                assert (first.new, second.new) == (of_record, 0)
+                cases.show(16)
+    for (first, step), choice in product(((130, 0), (200, 0), (0, 128), (128, 128), (0, 65), (253, 1), (64, 64)), CHOICES):
+        for letter, side, record in ("G", 8, LOOP), ("G", 4, curve(across, 3, 130)), ("H", 4, plane(2, 0, high=(3, 3))):
+            cases.fill(side**3, first, step)
+            held = bytes(cases.buffer[: side**3])
+            answer = cases.call(letter, side, record._replace(mark=130, choice=choice))
+            assert (answer.refusal, answer.new) == (None, sum(held[at] == 0 for at in places(side, record)))
+        cases.show()
+
+
+def random_strip_call(cases, dice, letter, side):
+    """A call of a random object, in about every seventh case with a fault, and then with a count near 64 or a long step."""
+    points, counts, mark, choice = random_record(dice, letter, side)
+    fault, which, length = dice.randrange(42), dice.randrange(len(counts)), side**3
+    if dice.randrange(4) == 0:
+        counts[which] = max(counts[which], dice.choice((60, 61, 62, 63, 64, 64)))
+    if fault == 0:
+        side = dice.choice((0, 1, 18, 64, 65, LARGEST, side + 1, side - 1))
+    if fault == 1:
+        points[dice.randrange(len(points))] = dice.choice((side, side + 1, 255))
+    if fault == 2:
+        counts[which] = dice.choice((0, 257, 513, 1 << 16, LARGEST))
+    if fault == 3:
+        mark = 0
+    if fault == 4:
+        length = dice.choice((length - 1, length + 1, dice.randrange(length)))
+    if fault in (5, 6):
+        counts[which] = dice.choice((65, 66, 67, 100, 128, 256))
+    if fault in (7, 8):
+        counts[which] = max(1, counts[which] // 3)
+    cases.call(letter, side, (patch if letter in ON_PATCHES else curve)(points, *counts, mark, choice), min(length, BUFFER))
+
+
+def random_on_strip(cases, dice):
+    """At every side of the strip, and at some beyond: in turn into empty, partly marked and full grids."""
+    for group in range(5 * 16 + 6):
+        side, step = 2 + group % 16 if group < 80 else dice.randrange(18, 30), dice.choice((32, 64, 128))
+        fillings = (0, 0), (step * dice.randrange(256), step), (dice.randrange(1, 256), 0)
+        cases.fill(side**3, *fillings[group % 3])
+        for letter in "GHGHGHG" if group < 80 else "GH":
+            random_strip_call(cases, dice, letter, side)
+        cases.show(dice.randrange(side**3))
+
+
+def mixed_with_strip(cases, dice):
+    """Lists of drawings on the strip among others, from empty and partly marked cubes: demand 3, and new cells add up."""
+    for side, first, step in (3, 0, 0), (6, 0, 128), (9, 0, 32), (17, 0, 0), (18, 0, 64):
+        cases.fill(side**3, first, step)
+        start, new, calls = bytes(cases.buffer[: side**3]), 0, []
+        for letter in "GDHTGPWHG":
+            points, counts, mark, choice = random_record(dice, letter, side)
+            record = (patch if letter in ON_PATCHES else curve)(points, *counts, mark, choice)
+            kinds = {"T": Path, "W": Chosen, "G": Strip, "H": Strip}
+            calls.append((side, kinds.get(letter, lambda record: record)(record)))
+            new += cases.call(letter, side, record).new or 0
+        grids = run(calls, start)
+        assert grids[-1] == cases.buffer[: side**3] and demand_3(calls, grids)
+        assert new == unmarked(start) - unmarked(grids[-1])
+
+
+def on_strip(cases, dice):
+    """Curves and patches on the strip, each beside the main path; enough of each was met."""
+    for part in (
+        strip_samples, strip_bounds, strip_refusals, strip_limits, large_on_strip, strip_over_and_under,
+    ):  # fmt: skip
+        part(cases)
+    random_on_strip(cases, dice)
+    mixed_with_strip(cases, dice)
+    for letter in ON_STRIP:
+        for number in STRIP_ORDER:
+            assert sum(cases.answered[letter, f"{choice} {number}"] for choice in CHOICES) >= 20, cases.answered
+        for way in WRONG_STRIPS:
+            least = 0 if letter == "G" and way in OF_PATCHES else 3
+            assert cases.strip_told[letter, way] >= least, (letter, way, cases.strip_told[letter, way])
+
+
+def strip_lines(cases):
+    """To how many calls on the strip a wrong way answers otherwise."""
+    for way in WRONG_STRIPS:
+        curves, patches = (cases.strip_told[letter, way] for letter in ON_STRIP)
+        yield f"the strip taken wrongly, {way}: seen by {curves} curves and {patches} patches"
+
+
 def no_cases(cases):
     """Records that are no case, of another form or lent more than there is; and bytes shown past the buffer's end."""
     first = cases.records[0][0]
-    longer = [case_record(letter, (2, 1, MARK, BUFFER + 1), NUMBERS) for letter in "FDLPWVXTU"]
+    longer = [case_record(letter, (2, 1, MARK, BUFFER + 1), NUMBERS) for letter in "FDLPWVXTUGH"]
     for case in *malformed(first), first[:-1] + " ", *longer:
         cases.records.append((case, answer_record("B", (), "d", ANSWERS)))
     cases.fill(8, 1, 1)
@@ -1484,6 +1734,7 @@ def main():
     choosing(cases, random.Random(6))
     flips(cases, random.Random(7))
     paths(cases, random.Random(8))
+    on_strip(cases, random.Random(9))
     no_cases(cases)
     assert all(distance <= 1 for _, distance in cases.distances), cases.distances
     kinds = product(DRAWINGS, CHOICES, ("all", "some", "none"))
@@ -1513,7 +1764,7 @@ def main():
         for way in WRONG_CHOSEN:
             counts, drawings = (cases.chosen_told[way, letter] for letter in CHOOSING)
             print(f"chosen wrongly, {way}: another answer to {counts} counts and to {drawings} drawings")
-        for said in (*flip_lines(cases), *path_lines(cases)):
+        for said in (*flip_lines(cases), *path_lines(cases), *strip_lines(cases)):
             print(said)
         print(len(cases.records), "records")
         return 0

@@ -3,7 +3,8 @@
 Whole numbers and fractions are exact throughout; there are no differences and no remainders here.  Imported, the module
 gives the expected answers of test programs.  Run as `python3 tests/model.py`, it checks itself on the documents' samples
 and exits with 1 if a check fails.  Quoted words are document 01's, for demand 3 also the demand's own, and for cells of
-samples, neighbours, hues, totals, new cells, choices, the test that quits, chosen counts, flips and paths document 02's.
+samples, neighbours, hues, totals, new cells, choices, the test that quits, chosen counts, flips, paths and the strip
+document 02's.
 """
 
 import random
@@ -459,6 +460,36 @@ def list_path(side, record, lent):
     return Answer(None, len(path(record)), listed + bytes(lent[len(listed) :]))
 
 
+# The preview strip (document 02, A.9)
+
+
+def strip_refusal(side, record, grid_length):
+    """A drawing's order, with "23 for a side of 18 to 64, right after 11", and 24 "right after 13".
+
+    24 is "for a step count above 64", along either parameter, "that 13 lets pass".
+    """
+    return first_refusal(
+        (11, lambda: not 2 <= side <= 64),
+        (23, lambda: 18 <= side <= 64),
+        (21, lambda: grid_length != side**3),
+        (12, lambda: not 1 <= record.mark <= 255),
+        (13, lambda: count_out_of_range(record)),
+        (24, lambda: any(n > 64 for n in record.counts)),
+        (14, lambda: max(record.coordinates) >= side),
+        (15, lambda: steps_too_long(record)),
+    )
+
+
+def draw_strip(side, record, grid):
+    """The strip "calls document 01's curve and patch drawing", and what it accepts "gives the grid and the answer"."""
+    refusal = strip_refusal(side, record, len(grid))
+    if refusal is not None:
+        return DrawAnswer(refusal, None, None, bytes(grid))
+    answer = draw(side, record, grid)
+    assert answer.refusal is None, record
+    return answer
+
+
 # Swatches: an f32 is its 32-bit pattern
 
 
@@ -771,10 +802,18 @@ class Path(NamedTuple):
     record: Record
 
 
+class Strip(NamedTuple):
+    """In a list of calls, in place of a record: the strip's drawing of this one."""
+
+    record: Record
+
+
 def drawn_by(side, called, grid):
     """What a call of the list answers."""
     if isinstance(called, Path):
         return draw_path(side, called.record, grid)
+    if isinstance(called, Strip):
+        return draw_strip(side, called.record, grid)
     return draw_chosen(side, called.record, grid) if isinstance(called, Chosen) else draw(side, called, grid)
 
 
@@ -786,6 +825,8 @@ def accepted_object(side, called, grid_length):
     if isinstance(called, Chosen):
         accepted = chosen_refusal(side, called.record, grid_length) is None
         return with_chosen_count(called.record) if accepted else None
+    if isinstance(called, Strip):
+        return called.record if strip_refusal(side, called.record, grid_length) is None else None
     record = called.record if isinstance(called, Path) else called
     return record if drawing_refusal(side, record, grid_length) is None else None
 
@@ -1549,6 +1590,68 @@ def wrong_path_listings(side, record, lent, answer):
             listed = bytes(c for cell in found for c in cell)
             if len(found) != answer.count or listed + lent[len(listed) :] != answer.lent:
                 yield way
+
+
+def broken_strip_laws(side, record, grid, answer):
+    """What does not hold of the strip's answer, by itself and beside the main path's from the same grid."""
+    main = draw(side, record, grid)
+    within = side <= 17 and max(record.counts) <= 64
+    laws = {
+        "the main path's answer, but for numbers of its own": answer.refusal in (23, 24) or answer == main,
+        "what the main path refuses is refused": main.refusal is None or answer.refusal is not None,
+        "what the main path accepts is accepted within its bounds": main.refusal is not None
+        or (answer.refusal is None) == within,
+        "numbers of its own are for what is beyond its bounds": answer.refusal not in (23, 24) or not within,
+        "the same from the flip": draw_strip(side, flip(record), grid) == answer,
+    }
+    return [law for law, holds in laws.items() if not holds] + broken_laws(side, record, grid, answer, draw_strip)
+
+
+STRIP_ORDER = 11, 23, 21, 12, 13, 24, 14, 15
+WRONG_BOUNDS = {  # of the strip
+    "side 17 refused": {"most_side": 16},
+    "side 18 taken": {"most_side": 18},
+    "64 steps refused": {"most_steps": 63},
+    "65 steps taken": {"most_steps": 65},
+    "24 by n alone": {"looked_at": lambda counts: counts[:1]},
+    "24 by m alone": {"looked_at": lambda counts: counts[-1:]},
+    "24 by the smaller count": {"looked_at": lambda counts: (min(counts),)},
+    "24 by the number of steps": {"looked_at": lambda counts: (prod(counts),)},
+    "11 in place of 23": {"instead": {23: 11}},
+    "13 in place of 24": {"instead": {24: 13}},
+    "23 left out": {"order": [number for number in STRIP_ORDER if number != 23]},
+    "24 left out": {"order": [number for number in STRIP_ORDER if number != 24]},
+}
+WRONG_STRIPS = {
+    **WRONG_BOUNDS,
+    **{f"{b} before {a}": {"order": order_exchanged(STRIP_ORDER, a, b)} for a, b in combinations(STRIP_ORDER, 2)},
+}
+OF_PATCHES = [way for way in WRONG_STRIPS if way.startswith("24 by ")]  # a curve has one count
+
+
+def strip_refused_by(
+    side, record, grid_length, order=STRIP_ORDER, most_side=17, most_steps=64, looked_at=tuple, instead=None
+):
+    """The strip's refusal, some part of it exchanged; 15 is tried of objects with few samples."""
+    few = min(record.counts) > 0 and prod(n + 1 for n in record.counts) <= 5000
+    refusal = first_refusal(*((number, {
+        11: lambda: not 2 <= side <= 64,
+        23: lambda: side > most_side,
+        21: lambda: grid_length != side**3,
+        12: lambda: record.mark == 0,
+        13: lambda: count_out_of_range(record),
+        24: lambda: any(n > most_steps for n in looked_at(record.counts)),
+        14: lambda: max(record.coordinates) >= side,
+        15: lambda: few and steps_too_long(record),
+    }[number]) for number in order))  # fmt: skip
+    return (instead or {}).get(refusal, refusal)
+
+
+def wrong_strips(side, record, grid_length, answer):
+    """The wrong ways by which the strip would be refused with another number, or accept."""
+    for way, parts in WRONG_STRIPS.items():
+        if strip_refused_by(side, record, grid_length, **parts) != answer.refusal:
+            yield way
 
 
 def in_reverse(listing):
@@ -2701,6 +2804,156 @@ def check_paths_in_lists(checks):
     checks.equal(group, "a path is more than a curve's cells", demand_3([(2, step)], run([(2, Path(step))], start)), False)
 
 
+STRIP_COUNTS = 0, 1, 64, 65, 256, 257, 512, 513
+STRIP_REFUSALS = {  # of a side by itself, and of a count by itself, by the number of parameters
+    "side": {0: 11, 1: 11, 2: None, 3: None, 16: None, 17: None, 18: 23, 19: 23, 63: 23, 64: 23, 65: 11, 4294967295: 11},
+    1: dict(zip(STRIP_COUNTS, (13, None, None, 24, 24, 24, 24, 13))),
+    2: dict(zip(STRIP_COUNTS, (13, None, None, 24, 24, 13, 13, 13))),
+}
+
+
+def beside_each_other(parameters, n=1, mark=9, choice=OVER, m=1):
+    """A curve or a patch from cell 0 to the one beside it on all axes."""
+    ends = [c for i in range(4) for c in [i // 2] * 3]
+    return patch(as_patch(ends), n, m, mark, choice) if parameters == 2 else curve(ends, n, mark, choice)
+
+
+def check_strip_samples(checks):
+    """The strip by name: its bounds, each pair of numbers, K1 to K12 as on the main path."""
+    group = "the strip"
+    after = {11: 23, 13: 24}
+    built = [number for n in PATH_ORDERS["drawing"] for number in (n, after.get(n)) if number]
+    checks.equal(group, "the order, from a drawing's", built, [*STRIP_ORDER])
+    for side, n in product(STRIP_REFUSALS["side"], STRIP_COUNTS):
+        record, grid = beside_each_other(1, n), bytes(side**3 if side < 65 else 8)
+        of_side = STRIP_REFUSALS["side"][side]
+        expected = of_side or STRIP_REFUSALS[1][n]
+        checks.equal(group, f"side {side}, n = {n}", draw_strip(side, record, grid).refusal, expected)
+        for m in STRIP_COUNTS:
+            refused = {STRIP_REFUSALS[2][n], STRIP_REFUSALS[2][m]}
+            expected = of_side or next((number for number in (13, 24) if number in refused), None)
+            answer = draw_strip(side, beside_each_other(2, n, m=m), grid)
+            checks.equal(group, f"side {side}, n = {n}, m = {m}", answer.refusal, expected)
+    held = bytes(range(256)) * 20
+    gap, outside = [0] * 9 + [0, 0, 2], [0] * 9 + [0, 255, 255]
+    for expected, side, length, n, m, mark, points in (
+        (11, 1, 0, 0, 0, 0, outside), (11, 65, 0, 513, 513, 0, outside), (11, 65, 0, 65, 65, 0, outside),
+        (23, 18, 0, 0, 0, 0, outside), (23, 18, 5832, 513, 513, 0, outside), (23, 64, 8, 65, 65, 9, gap),
+        (23, 64, 8, 1, 1, 9, gap), (21, 17, 4912, 0, 0, 0, outside), (21, 17, 4914, 65, 65, 0, outside),
+        (21, 2, 4913, 65, 65, 9, gap), (12, 17, 4913, 0, 0, 0, outside), (12, 17, 4913, 65, 65, 0, outside),
+        (12, 17, 4913, 1, 1, 0, gap), (13, 17, 4913, 0, 65, 9, outside), (13, 17, 4913, 513, 65, 9, outside),
+        (13, 17, 4913, 0, 1, 9, gap), (24, 17, 4913, 65, 1, 9, outside), (24, 17, 4913, 65, 64, 9, outside),
+        (24, 17, 4913, 65, 1, 9, gap), (14, 17, 4913, 64, 64, 9, outside), (14, 17, 4913, 1, 1, 9, outside),
+        (15, 17, 4913, 1, 1, 9, gap), (None, 17, 4913, 64, 64, 9, gap), (None, 17, 4913, 6, 6, 9, gap),
+    ):  # fmt: skip
+        grid = (held * 2)[:length]
+        for record in curve(points, n, mark), patch(as_patch(points), n, m, mark):
+            answer = draw_strip(side, record, grid)
+            checks.equal(group, f"{side} {length} {record}", answer.refusal, expected)
+            checks.equal(group, f"laws {side} {length} {record}", broken_strip_laws(side, record, grid, answer), [])
+    for n, m, expected in (0, 65, 13), (65, 0, 13), (257, 65, 13), (65, 257, 13), (65, 65, 24), (1, 65, 24), (65, 1, 24):
+        answer = draw_strip(2, beside_each_other(2, n, m=m), bytes(8))
+        checks.equal(group, f"13 and 24, n = {n}, m = {m}", answer.refusal, expected)
+    for axis, (name, points, n, _, refusal) in product(range(3), K1_TO_K11):
+        record = curve(on_axis(axis, points), n, 9)
+        answer = draw_strip(8, record, held[:512])
+        checks.equal(group, f"{name}, axis {axis}", (answer, answer.refusal), (draw(8, record, held[:512]), refusal))
+        checks.equal(group, f"{name}, side 18", draw_strip(18, record, bytes(5832)).refusal, 23)
+        checks.equal(group, f"{name}, 65 steps", draw_strip(8, record._replace(counts=(65,)), bytes(512)).refusal, 24)
+    k12 = patch(on_axis(0, K12), 4, 4, 9)
+    checks.equal(group, "K12", draw_strip(8, k12, bytes(512)), draw(8, k12, bytes(512)))
+    for way, side, record, wrong in (
+        ("side 17 refused", 17, beside_each_other(1), 23),
+        ("side 18 taken", 18, beside_each_other(1), None),
+        ("64 steps refused", 2, beside_each_other(1, 64), 24),
+        ("65 steps taken", 2, beside_each_other(1, 65), None),
+        ("24 by n alone", 2, beside_each_other(2, m=65), None),
+        ("24 by m alone", 2, beside_each_other(2, 65), None),
+        ("24 by the smaller count", 2, beside_each_other(2, 65), None),
+        ("24 by the number of steps", 2, beside_each_other(2, 13, m=5), 24),
+        ("11 in place of 23", 64, beside_each_other(1), 11),
+        ("13 in place of 24", 2, beside_each_other(1, 512), 13),
+        ("23 left out", 64, beside_each_other(1), None),
+        ("24 left out", 2, beside_each_other(1, 512), None),
+        ("23 before 11", 65, beside_each_other(1), 23),
+        ("24 before 13", 2, beside_each_other(1, 513), 24),
+        ("24 before 13", 2, beside_each_other(2, 65, m=0), 24),
+    ):
+        found = strip_refused_by(side, record, side**3, **WRONG_STRIPS[way])
+        right = strip_refusal(side, record, side**3)
+        checks.equal(group, f"{way}, {record}", (found, found == right), (wrong, False))
+
+
+def random_strip_record(dice, side):
+    """A random record, in every third case with a count near 64."""
+    record = random_record(dice, side)
+    if dice.randrange(3) == 0:
+        counts, which = list(record.counts), dice.randrange(len(record.counts))
+        counts[which] = dice.choice((63, 64, 65, 66, 128, 256, 257))
+        record = record._replace(counts=tuple(counts))
+    return record
+
+
+def check_strip(checks):
+    """The strip at random, beside the main path; wrong ways told apart."""
+    group = "the strip"
+    dice = random.Random(15)
+    answered, told = Counter(), Counter()
+    for _ in range(900):
+        side = dice.choice((2, 3, 5, 8, 13, 16, 17, 18, 19))
+        record = random_strip_record(dice, side)
+        called = dice.choice((0, 1, 65, side + 1)) if dice.randrange(25) == 0 else side
+        grid = random_grid(dice, side)
+        answer = draw_strip(called, record, grid)
+        checks.equal(group, f"laws of {record}", broken_strip_laws(called, record, grid, answer), [])
+        refusal = strip_refused_by(called, record, len(grid))
+        checks.equal(group, f"the order itself, {record}", refusal, answer.refusal)
+        parameters = len(record.counts)
+        answered[parameters, answer.refusal] += 1
+        told.update((parameters, way) for way in wrong_strips(called, record, len(grid), answer))
+    for parameters in 1, 2:
+        found = {number for which, number in answered if which == parameters} | {21}
+        checks.equal(group, f"every answer: {answered}", found, {None, *STRIP_ORDER})
+        ways = [way for way in WRONG_BOUNDS if parameters == 2 or way not in OF_PATCHES]
+        few = {way: told[parameters, way] for way in ways if told[parameters, way] < 3}
+        checks.equal(group, f"wrong bounds told apart by 3 calls or more: {told}", few, {})
+
+
+def check_strip_in_lists(checks):
+    """Demand 3 for lists with the strip's drawings among others, which leave the grid that the main path leaves."""
+    group = "demand 3, the strip"
+    dice = random.Random(16)
+    kinds = Counter()
+    for number in range(120):
+        side = dice.choice((2, 3, 5, 8, 13, 17, 18))
+        calls = []
+        for _ in range(dice.randrange(1, 9)):
+            called = dice.choice((0, 1, 65, side + 1)) if dice.randrange(12) == 0 else side
+            record = random_strip_record(dice, side)
+            calls.append((called, dice.choice((Strip, Strip, lambda record: record))(record)))
+        start = random_grid(dice, side)
+        grids = run(calls, start)
+        checks.equal(group, f"list {number}", demand_3(calls, grids), True)
+        drawn = [accepted_object(called, which, len(start)) for called, which in calls]
+        accepted = [(side, record) for record in drawn if record is not None]
+        checks.equal(group, f"list {number}, drawn on the main path", run(accepted, start)[-1] == grids[-1], True)
+        for (_, which), record in zip(calls, drawn):
+            if isinstance(which, Strip):
+                kinds[which.record.choice, len(which.record.counts), record is not None] += 1
+    found = min(kinds[kind] for kind in product((OVER, UNDER), (1, 2), (True, False)))
+    checks.equal(group, f"each kind 8 times or more: {kinds}", found >= 8, True)
+    line_of_4, start = curve(on_axis(0, (0, 1, 2, 3)), 3, 9), bytes(64)
+    drawn = bytes([9] * 4) + start[4:]
+    for label, side, record, after, holds in (
+        ("as on the main path", 4, line_of_4, drawn, True),
+        ("nothing drawn", 4, line_of_4, start, False),
+        ("one cell left out", 4, line_of_4, bytes([9, 9, 9, 0]) + start[4:], False),
+        ("65 steps drawn", 4, line_of_4._replace(counts=(65,)), drawn, False),
+        ("65 steps not drawn", 4, line_of_4._replace(counts=(65,)), start, True),
+    ):
+        checks.equal(group, label, demand_3([(side, Strip(record))], [start, after]), holds)
+
+
 def check_demand_3_can_fail(checks):
     """Document 01's impostors and slips are seen by the checks of demand 3, and strokes that go under wrongly."""
     group = "demand 3, impostors"
@@ -2855,6 +3108,9 @@ def self_check():
         check_path_samples,
         check_paths,
         check_paths_in_lists,
+        check_strip_samples,
+        check_strip,
+        check_strip_in_lists,
         check_demand_3_can_fail,
         check_random_calls,
     ):

@@ -1,4 +1,5 @@
-// Whether two calls agree, with a record and with its flip. What is `pub` here is so for drawing_cases.
+// Whether two calls agree: with a record and with its flip, or on the strip and on the main path. What is `pub` here is so for
+// drawing_cases.
 ghost use mathlib.Core.Logic.{_↔_};
 ghost use mathlib.Core.Path.{_≡_};
 ghost use Prim.Native.Nat.{_+_, _≤_};

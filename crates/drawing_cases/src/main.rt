@@ -11,6 +11,8 @@
 //     Q side n mark 0 m choice points              checks a patch
 //     T side steps mark length 0 choice points     draws a curve's path, the lent bytes as its grid
 //     U side steps mark length 0 choice points     lists a curve's path, the lent bytes as its list
+//     G side steps mark length 0 choice points     draws a curve on the strip, the lent bytes as its grid
+//     H side n mark length m choice points         draws a patch on the strip, the lent bytes as its grid
 //     V 0 steps mark length 0 choice points        flips a curve, whose points it writes to the lent bytes
 //     X 0 n mark length m choice points            flips a patch, whose points it writes to the lent bytes
 //
@@ -22,7 +24,9 @@
 //
 // Each of D L C M W P Q is called twice: with the record, and with its flip and other bytes that hold the same. The two
 // agree if they answer the same, and the bytes lent to both hold the same afterwards; of accepted listings, if the two lists
-// have the same cells in reverse order and the same bytes behind them. T and U are called once. The answers are
+// have the same cells in reverse order and the same bytes behind them. Beside G and H the main path draws the same record,
+// with the same side and other bytes that hold the same. The two agree if the strip refuses with 23 or 24, or else if they
+// answer the same, and the bytes lent to both hold the same afterwards. T and U are called once. The answers are
 //
 //     A count new marked first second          accepted
 //     R number 0 marked first second           refused
@@ -41,6 +45,7 @@
 //
 // A case has 22 numbers, hence 199 bytes, and an answer five, hence 47 bytes.
 mod answer;
+mod beside;
 mod bytes;
 mod calls;
 mod flips;
@@ -161,6 +166,8 @@ fn answer_twice(case: &[u8], lent: &mut [u8], again: &mut [u8]) -> Answer
         b'L' => twice::list_curve(case, lent, again),
         b'W' => twice::draw_chosen(case, lent, again),
         b'P' => twice::draw_patch(case, lent, again),
+        b'G' => beside::draw_strip_curve(case, lent, again),
+        b'H' => beside::draw_strip_patch(case, lent, again),
         _ => answer::none(),
     }
 }

@@ -102,7 +102,7 @@ pub(crate) fn check_patch(case: &[u8]) -> Answer
 }
 
 // The first answer, where the second is the same and the lent bytes are.
-fn answered(one: Said, other: Said, lent: &[u8], again: &[u8]) -> Answer {
+pub(crate) fn answered(one: Said, other: Said, lent: &[u8], again: &[u8]) -> Answer {
     if same_answer(one, other) && same_from(lent, again, 0) {
         held(one, lent)
     } else {
