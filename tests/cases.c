@@ -51,7 +51,7 @@ void random_bytes(uint8_t *to, size_t len) {
 unsigned random_faults(unsigned possible) {
     unsigned faults = 0;
     for (uint32_t wanted = one_in(2) ? 0 : 1 + below(2); wanted > 0; wanted--)
-        faults |= 1u << below(8);
+        faults |= 1u << below(possible > ALL_FAULTS ? 10 : 8);
     return faults & possible;
 }
 
@@ -78,6 +78,16 @@ uint32_t bad_side(void) {
     static const uint32_t sides[] = {0,   1,   65,   65,    66,      100,        255,
                                      256, 257, 1626, 65536, 4194304, 0x80000000, 0xFFFFFFFF};
     return one_in(10) ? 65 + below(0xFFFFFFFF - 65) : PICK(sides);
+}
+
+uint32_t strip_side(void) {
+    static const uint32_t notable[] = {2, 2, 3, 16, 17, 17, 17};
+    return one_in(4) ? PICK(notable) : one_in(3) ? 10 + below(8) : 2 + below(8);
+}
+
+static uint32_t side_off_strip(void) {
+    static const uint32_t sides[] = {18, 18, 18, 19, 20, 33, 63, 64};
+    return one_in(4) ? 18 + below(47) : PICK(sides);
 }
 
 /* Control points of one axis: point k at points[3 k] */
@@ -221,11 +231,23 @@ static void random_counts(struct object_call *call, int large) {
         lower_to_threshold(call, call->patch && one_in(2) ? &call->m : &call->n);
 }
 
+/* With few samples of a patch that is not large. */
+static void strip_counts(struct object_call *call, int large) {
+    if (call->n > 64 && !one_in(16))
+        call->n = 64 - below(2);
+    if (call->patch && call->m > 64 && !one_in(16))
+        call->m = 64 - below(2);
+    if (one_in(4))
+        *(call->patch && one_in(2) ? &call->m : &call->n) = one_in(4) ? 60 + below(8) : 64;
+    if (call->patch && !large && call->n > 40 && call->m > 40)
+        *(one_in(2) ? &call->n : &call->m) = 1 + below(8);
+}
+
 /* Faults */
 
 /* Two cells or more in one step; along u where the count along t is to be bad. */
 static void long_step(struct object_call *call, uint8_t *points, unsigned faults) {
-    int axis = (int)below(3), along_u = call->patch && (faults & BAD_COUNT || one_in(2));
+    int axis = (int)below(3), along_u = call->patch && (faults & (BAD_COUNT | STRIP_COUNT) || one_in(2));
     uint32_t far = call->side > 2 ? between(2, call->side - 1) : 1, last = along_u || !call->patch ? 3 : 12;
     points[axis] = 0;
     points[3 * last + (uint32_t)axis] = (uint8_t)far;
@@ -250,6 +272,19 @@ static void bad_count(struct object_call *call, uint8_t *points, unsigned faults
     } else {
         call->n = (faults & LONG_STEP) != 0 && one_in(2) ? 257 : PICK(patch);
     }
+}
+
+/* A curve that is to have a long step as well gets coordinates up to 255; a patch has its long step, or a bad count, along
+   the other parameter. */
+static void count_off_strip(struct object_call *call, uint8_t *points, unsigned faults) {
+    static const uint32_t curve[] = {65, 65, 65, 66, 100, 128, 255, 256, 257, 320, 511, 512, 512};
+    static const uint32_t patch[] = {65, 65, 65, 66, 100, 128, 255, 256, 256};
+    int along_u = call->patch && (faults & LONG_STEP) == 0 && one_in(2);
+    *(along_u ? &call->m : &call->n) = call->patch ? PICK(patch) : PICK(curve);
+    if (call->patch && (faults & BAD_COUNT) != 0)
+        *(along_u ? &call->n : &call->m) = one_in(2) ? 0 : 257 + below(300);
+    for (int k = 0; k < 4 && !call->patch && (faults & LONG_STEP) != 0; k++)
+        points[3 * k] = k % 2 ? 255 : 0;
 }
 
 static void bad_coordinate(const struct object_call *call, uint8_t *points) {
@@ -368,6 +403,8 @@ static void begin_record(struct object_call *call, uint8_t *points, unsigned fau
 static void end_record(struct object_call *call, uint8_t *points, unsigned faults) {
     if (faults & BAD_SIDE)
         call->side = bad_side();
+    else if (faults & STRIP_SIDE)
+        call->side = side_off_strip();
     if (faults & BAD_COORDINATE)
         bad_coordinate(call, points);
     if (faults & BAD_RECORD)
@@ -395,9 +432,13 @@ void random_object(struct object_call *call, uint8_t *points, int large, unsigne
     random_counts(call, large);
     if (of_path(call) && one_in(large ? 4 : 32))
         moving_path(call, points);
+    if (on_strip(call))
+        strip_counts(call, large);
     if (faults & LONG_STEP)
         long_step(call, points, faults);
-    if (faults & BAD_COUNT)
+    if (faults & STRIP_COUNT)
+        count_off_strip(call, points, faults);
+    else if (faults & BAD_COUNT)
         bad_count(call, points, faults);
     end_record(call, points, faults);
 }

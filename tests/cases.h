@@ -25,7 +25,10 @@ enum fault {
     BAD_COORDINATE = 32,
     LONG_STEP = 64,
     BAD_CHOICE = 128,
-    ALL_FAULTS = 255
+    ALL_FAULTS = 255,
+    STRIP_SIDE = 256,  /* 18 to 64 */
+    STRIP_COUNT = 512, /* above 64, and good elsewhere */
+    STRIP_FAULTS = 1023
 };
 
 /* None, one or two of the faults. */
@@ -34,8 +37,12 @@ unsigned random_faults(unsigned possible);
 uint32_t random_side(void);
 uint32_t bad_side(void);
 
+/* 2 to 17. */
+uint32_t strip_side(void);
+
 /* Fills in all of a call but its service, patch, side and lent buffer; points is room for 64 bytes. The side is a good
-   one, and changed only by BAD_SIDE. Both choices are as likely. */
+   one, and changed only by BAD_SIDE and STRIP_SIDE. On the strip counts are 64 or less mostly, and often near that. Both
+   choices are as likely. */
 void random_object(struct object_call *call, uint8_t *points, int large, unsigned faults);
 
 /* The same for a curve whose step count is near three times its largest gap of consecutive points, and without a length of

@@ -31,7 +31,7 @@ uint32_t *number_at(uint8_t *bytes);
 int same(const struct lent *lent);
 
 /* The refusal numbers; 0 stands for an accepted call. */
-enum { NUMBERS = 20 };
+enum { NUMBERS = 22 };
 
 extern const int NUMBER[NUMBERS];
 int index_of(int number);
@@ -191,6 +191,44 @@ void count_order(struct counts *counts, const struct order *order);
     X(PATH_BETWEEN_NEW, "paths drawn with new cells that no sample has")                                               \
     X(PATH_BETWEEN_KEPT, "paths drawn under marked cells that no sample has")                                          \
     X(PATH_FLIP_OTHER, "paths of a curve and of its flip that do not have the same cells")                             \
+    X(STRIP_AS_MAIN_CURVE, "curves accepted on the strip, compared with those of the main path")                       \
+    X(STRIP_AS_MAIN_PATCH, "patches accepted on the strip, compared with those of the main path")                      \
+    X(STRIP_REFUSED_AS_MAIN, "calls refused on the strip and on the main path with the same number")                   \
+    X(STRIP_23_DRAWN, "23 on the strip for what the main path draws")                                                  \
+    X(STRIP_24_DRAWN_CURVE, "24 on the strip for a curve that the main path draws")                                    \
+    X(STRIP_24_DRAWN_PATCH, "24 on the strip for a patch that the main path draws")                                    \
+    X(STRIP_23_REFUSED, "23 on the strip for what the main path refuses")                                              \
+    X(STRIP_24_REFUSED, "24 on the strip for what the main path refuses")                                              \
+    X(STRIP_SIDE_1, "11 on the strip for side 1")                                                                      \
+    X(STRIP_SIDE_2, "accepted on the strip, side 2")                                                                   \
+    X(STRIP_SIDE_17, "accepted on the strip, side 17")                                                                 \
+    X(STRIP_SIDE_18, "23 for side 18")                                                                                 \
+    X(STRIP_SIDE_64, "23 for side 64")                                                                                 \
+    X(STRIP_SIDE_65, "11 on the strip for side 65")                                                                    \
+    X(STRIP_COUNT_0, "13 on the strip for a step count 0")                                                             \
+    X(STRIP_COUNT_1, "accepted on the strip with a step count 1")                                                      \
+    X(STRIP_CURVE_64, "accepted curves of 64 steps on the strip")                                                      \
+    X(STRIP_CURVE_65, "24 for a curve of 65 steps")                                                                    \
+    X(STRIP_CURVE_512, "24 for a curve of 512 steps")                                                                  \
+    X(STRIP_CURVE_513, "13 on the strip for a curve of 513 steps")                                                     \
+    X(STRIP_PATCH_64_T, "accepted patches of 64 steps along t on the strip")                                           \
+    X(STRIP_PATCH_64_U, "accepted patches of 64 steps along u on the strip")                                           \
+    X(STRIP_PATCH_64_64, "accepted patches of 64 x 64 steps on the strip")                                             \
+    X(STRIP_PATCH_65_T, "24 for a patch of 65 steps along t and at most 64 along u")                                   \
+    X(STRIP_PATCH_65_U, "24 for a patch of 65 steps along u and at most 64 along t")                                   \
+    X(STRIP_PATCH_256, "24 for a patch of 256 steps along t or along u")                                               \
+    X(STRIP_PATCH_257, "13 on the strip for a patch of 257 steps along t or along u")                                  \
+    X(STRIP_13_T, "13 on the strip for a patch of 0 or more than 256 steps along t and 65 to 256 along u")             \
+    X(STRIP_13_U, "13 on the strip for a patch of 0 or more than 256 steps along u and 65 to 256 along t")             \
+    X(STRIP_STEP_ONE, "accepted on the strip with a step of exactly one cell")                                         \
+    X(STRIP_STEP_LONG, "15 on the strip")                                                                              \
+    X(STRIP_COORDINATE_LAST, "accepted on the strip with a coordinate side - 1")                                       \
+    X(STRIP_COORDINATE_SIDE, "14 on the strip with a coordinate equal to the side")                                    \
+    X(STRIP_GRID_SHORT, "21 on the strip for a grid one byte short")                                                   \
+    X(STRIP_GRID_LONG, "21 on the strip for a grid one byte long")                                                     \
+    X(STRIP_GRID_EMPTY, "21 on the strip for an empty grid")                                                           \
+    X(STRIP_CHOICE_2, "55 on the strip for the choice 2")                                                              \
+    X(STRIP_CHOICE_256, "55 on the strip for the choice 256")                                                          \
     X(CURVE_OVER_UNMARKED, "curves drawn over, into an unmarked grid")                                                 \
     X(CURVE_OVER_HALF, "curves drawn over, 2 to 3 fifths of the grid marked, some cells new and some not")             \
     X(CURVE_OVER_MARKED, "curves drawn over, into a grid without an unmarked cell")                                    \
@@ -215,6 +253,18 @@ void count_order(struct counts *counts, const struct order *order);
     X(PATH_UNDER_UNMARKED, "paths drawn under, into an unmarked grid")                                                 \
     X(PATH_UNDER_HALF, "the same, 2 to 3 fifths of the grid marked, some cells new and some not")                      \
     X(PATH_UNDER_MARKED, "the same, into a grid without an unmarked cell")                                             \
+    X(STRIP_CURVE_OVER_UNMARKED, "curves drawn over on the strip, into an unmarked grid")                              \
+    X(STRIP_CURVE_OVER_HALF, "the same, 2 to 3 fifths of the grid marked, some cells new and some not")                \
+    X(STRIP_CURVE_OVER_MARKED, "the same, into a grid without an unmarked cell")                                       \
+    X(STRIP_CURVE_UNDER_UNMARKED, "curves drawn under on the strip, into an unmarked grid")                            \
+    X(STRIP_CURVE_UNDER_HALF, "the same, 2 to 3 fifths of the grid marked, some cells new and some not")               \
+    X(STRIP_CURVE_UNDER_MARKED, "the same, into a grid without an unmarked cell")                                      \
+    X(STRIP_PATCH_OVER_UNMARKED, "patches drawn over on the strip, into an unmarked grid")                             \
+    X(STRIP_PATCH_OVER_HALF, "the same, 2 to 3 fifths of the grid marked, some cells new and some not")                \
+    X(STRIP_PATCH_OVER_MARKED, "the same, into a grid without an unmarked cell")                                       \
+    X(STRIP_PATCH_UNDER_UNMARKED, "patches drawn under on the strip, into an unmarked grid")                           \
+    X(STRIP_PATCH_UNDER_HALF, "the same, 2 to 3 fifths of the grid marked, some cells new and some not")               \
+    X(STRIP_PATCH_UNDER_MARKED, "the same, into a grid without an unmarked cell")                                      \
     X(ALL_SAMPLES_NEW, "drawings with a new cell for every sample")                                                    \
     X(GRID_FILLED, "drawings that leave no cell unmarked, some new")                                                   \
     X(ONE_CELL_NEW, "curves with all samples in one cell, a new one")                                                  \
@@ -256,13 +306,18 @@ void count_order(struct counts *counts, const struct order *order);
     X(FLIP_LIST_REST, "lists of a curve and of its flip, another curve, with bytes that are left")                     \
     X(FLIP_CURVE_OVER, "a curve and its flip, another curve, drawn over, some cells new and some not")                 \
     X(FLIP_CHOSEN_OVER, "the same with a chosen count")                                                                \
+    X(FLIP_STRIP_CURVE_OVER, "the same on the strip")                                                                  \
     X(FLIP_CURVE_UNDER, "a curve and its flip, another curve, drawn under, some cells new and some not")               \
     X(FLIP_CHOSEN_UNDER, "the same with a chosen count")                                                               \
+    X(FLIP_STRIP_CURVE_UNDER, "the same on the strip")                                                                 \
     X(FLIP_CHOSEN, "chosen counts above 1 of a curve and of its flip, another curve")                                  \
     X(FLIP_PATCH_CHECK, "accepted checks of a patch and of its flip, n and m not the same")                            \
     X(FLIP_PATCH_HALF, "a patch and its flip drawn, n and m not the same, with a sample on a half")                    \
     X(FLIP_PATCH_OVER, "a patch and its flip drawn over, n and m not the same, some cells new and some not")           \
+    X(FLIP_STRIP_PATCH_OVER, "the same on the strip")                                                                  \
     X(FLIP_PATCH_UNDER, "a patch and its flip drawn under, n and m not the same, some cells new and some not")         \
+    X(FLIP_STRIP_PATCH_UNDER, "the same on the strip")                                                                 \
+    X(FLIP_STRIP_STEPS, "24 for a patch, n and m not the same, and for its flip")                                      \
     X(FLIP_LONG_STEP, "15 for a patch, n and m not the same, and for its flip")                                        \
     X(CHANNEL_HALF, "accepted swatches with a channel on a half")                                                      \
     X(CHANNEL_MINUS_ZERO, "accepted swatches with a minus zero")                                                       \
@@ -335,7 +390,8 @@ void count_order(struct counts *counts, const struct order *order);
     X(LIST_OF_THREE, "lists with three accepted calls or more")                                                        \
     X(LIST_OF_BOTH, "lists with accepted calls of both choices")                                                       \
     X(LIST_OF_CHOSEN, "lists with accepted curves of both kinds, their counts passed and chosen")                      \
-    X(LIST_OF_PATHS, "lists with accepted paths and others")
+    X(LIST_OF_PATHS, "lists with accepted paths and others")                                                           \
+    X(LIST_OF_STRIP, "lists with accepted drawings on the strip and others")
 
 #define MET_NAME(name, words) name,
 enum met { MET(MET_NAME) METS };

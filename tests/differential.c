@@ -20,8 +20,9 @@ static struct lent points = {.name = "points"}, grid = {.name = "grid or list"},
 
 /* Curves and patches */
 
-static const char *const SERVICE[] = {
-    "check", "list", "draw", "choose the steps of", "draw with chosen steps", "list the path of", "draw the path of"};
+static const char *const SERVICE[SERVICES] = {
+    "check", "list", "draw", "choose the steps of", "draw with chosen steps", "list the path of", "draw the path of",
+    "draw on the strip"};
 
 static void print_object(const struct object_call *c) {
     printf("  %s %s: side %" PRIu32, SERVICE[c->service], c->patch ? "patch" : "curve", c->side);
@@ -42,6 +43,9 @@ static int64_t library_object(const struct object_call *c) {
     size_t len = c->points_len;
     if (c->patch && c->service == CHECK)
         return gidzkhalu_check_patch(c->side, p, len, c->n, c->m);
+    if (c->patch && on_strip(c))
+        return gidzkhalu_draw_strip_patch(c->side, p, len, c->n, c->m, c->mark, c->choice, c->lent, c->lent_len,
+                                          c->new_cells);
     if (c->patch)
         return gidzkhalu_draw_patch(c->side, p, len, c->n, c->m, c->mark, c->choice, c->lent, c->lent_len,
                                     c->new_cells);
@@ -53,6 +57,9 @@ static int64_t library_object(const struct object_call *c) {
         return gidzkhalu_list_path(c->side, p, len, c->n, c->lent, c->lent_len);
     if (c->service == DRAW_PATH)
         return gidzkhalu_draw_path(c->side, p, len, c->n, c->mark, c->choice, c->lent, c->lent_len, c->new_cells);
+    if (on_strip(c))
+        return gidzkhalu_draw_strip_curve(c->side, p, len, c->n, c->mark, c->choice, c->lent, c->lent_len,
+                                          c->new_cells);
     if (c->service == CHOOSE)
         return gidzkhalu_choose_steps(c->side, p, len);
     if (c->service == DRAW_CHOSEN)
@@ -246,6 +253,49 @@ static void meet_refused_path(const struct object_call *c, int64_t answer) {
     meet(PATH_CHOICE_256, answer == -55 && c->choice == 256);
 }
 
+/* Of an accepted drawing on the strip. */
+static void meet_accepted_strip(const struct object_call *c) {
+    meet(STRIP_SIDE_2, c->side == 2);
+    meet(STRIP_SIDE_17, c->side == 17);
+    meet(STRIP_COUNT_1, c->n == 1 || (c->patch && c->m == 1));
+    meet(STRIP_CURVE_64, !c->patch && c->n == 64);
+    meet(STRIP_PATCH_64_T, c->patch && c->n == 64);
+    meet(STRIP_PATCH_64_U, c->patch && c->m == 64);
+    meet(STRIP_PATCH_64_64, c->patch && c->n == 64 && c->m == 64);
+    meet(STRIP_STEP_ONE, longest_step(&samples) == samples.scale);
+    meet(STRIP_COORDINATE_LAST, any_coordinate(c, c->side - 1));
+}
+
+/* A step count of a patch that 13 lets pass and 24 does not, and one that 13 does not. */
+static int off_strip(uint32_t count) { return 65 <= count && count <= 256; }
+static int outside(uint32_t count) { return count == 0 || 256 < count; }
+
+static void meet_refused_strip(const struct object_call *c, int64_t answer) {
+    size_t volume = (size_t)c->side * c->side * c->side;
+    int of_curve = !c->patch, steps = answer == -24, outside_range = answer == -13;
+    meet(STRIP_SIDE_1, answer == -11 && c->side == 1);
+    meet(STRIP_SIDE_18, answer == -23 && c->side == 18);
+    meet(STRIP_SIDE_64, answer == -23 && c->side == 64);
+    meet(STRIP_SIDE_65, answer == -11 && c->side == 65);
+    meet(STRIP_COUNT_0, outside_range && (c->n == 0 || (c->patch && c->m == 0)));
+    meet(STRIP_CURVE_65, steps && of_curve && c->n == 65);
+    meet(STRIP_CURVE_512, steps && of_curve && c->n == 512);
+    meet(STRIP_CURVE_513, outside_range && of_curve && c->n == 513);
+    meet(STRIP_PATCH_65_T, steps && c->patch && c->n == 65 && c->m <= 64);
+    meet(STRIP_PATCH_65_U, steps && c->patch && c->m == 65 && c->n <= 64);
+    meet(STRIP_PATCH_256, steps && c->patch && (c->n == 256 || c->m == 256));
+    meet(STRIP_PATCH_257, outside_range && c->patch && (c->n == 257 || c->m == 257));
+    meet(STRIP_13_T, outside_range && c->patch && outside(c->n) && off_strip(c->m));
+    meet(STRIP_13_U, outside_range && c->patch && outside(c->m) && off_strip(c->n));
+    meet(STRIP_STEP_LONG, answer == -15);
+    meet(STRIP_COORDINATE_SIDE, answer == -14 && any_coordinate(c, c->side));
+    meet(STRIP_GRID_SHORT, answer == -21 && c->lent_len + 1 == volume);
+    meet(STRIP_GRID_LONG, answer == -21 && c->lent_len == volume + 1);
+    meet(STRIP_GRID_EMPTY, answer == -21 && c->lent_len == 0);
+    meet(STRIP_CHOICE_2, answer == -55 && c->choice == 2);
+    meet(STRIP_CHOICE_256, answer == -55 && c->choice == 256);
+}
+
 /* The neighbours of accepted patches whose cells differ by more than one on some axis. */
 static uint64_t patch_neighbours_apart;
 
@@ -305,6 +355,11 @@ static void meet_object(const struct object_call *c, int64_t answer) {
             meet_accepted_path(c, answer);
         else
             meet_refused_path(c, answer);
+    } else if (on_strip(c)) {
+        if (answer >= 0)
+            meet_accepted_strip(c);
+        else
+            meet_refused_strip(c, answer);
     } else if (answer >= 0 && chooses(c)) {
         meet_accepted_choice(c);
     } else if (answer >= 0) {
@@ -336,7 +391,8 @@ static void count_drawing(int64_t answer) {
    cells. */
 static int compare_new_cells(const struct object_call *c, int64_t answer, size_t unmarked) {
     uint32_t count = *number_at(new_cells.got);
-    uint32_t kind = c->service == DRAW_PATH ? 3 : c->service == DRAW_CHOSEN ? 2 : c->patch != 0;
+    uint32_t of_patch = c->patch != 0;
+    uint32_t kind = on_strip(c) ? 4 + of_patch : c->service == DRAW_PATH ? 3 : c->service == DRAW_CHOSEN ? 2 : of_patch;
     uint32_t drawn = 6 * kind + 3 * c->choice;
     size_t cells;
     count_drawing(answer);
@@ -929,8 +985,8 @@ static int refusal_line(void) {
 
 /* A length of the record or a choice that is wrong. */
 static int wrong_record(enum service service, int patch) {
-    int draws_it = service == DRAW || service == DRAW_CHOSEN || service == DRAW_PATH;
-    unsigned fault = draws_it && one_in(2) ? BAD_CHOICE : BAD_RECORD;
+    struct object_call c = {service, patch, 0, 0, 0, 0, OVER, NULL, 0, NULL, 0, NULL};
+    unsigned fault = draws(&c) && one_in(2) ? BAD_CHOICE : BAD_RECORD;
     return object_case(service, patch, 0, fault | random_faults(ALL_FAULTS));
 }
 
@@ -947,9 +1003,9 @@ static int wrong_length(void) {
         return half_way_case(1);
     case 6:
     case 7:
-        return wrong_record(one_in(2) ? CHECK : DRAW, 1);
+        return wrong_record(one_in(3) ? CHECK : one_in(2) ? DRAW : DRAW_STRIP, 1);
     default:
-        return wrong_record((enum service)below(7), 0);
+        return wrong_record((enum service)below(SERVICES), 0);
     }
 }
 
@@ -1362,8 +1418,12 @@ static void meet_flip(const struct object_call *c, const struct called *record, 
     meet(c->choice == OVER ? FLIP_CHOSEN_OVER : FLIP_CHOSEN_UNDER, chosen);
     meet(FLIP_PATCH_CHECK, accepted && c->service == CHECK && sides);
     meet(FLIP_PATCH_HALF, accepted && c->service == DRAW && sides && halves > 0);
-    meet(c->choice == OVER ? FLIP_PATCH_OVER : FLIP_PATCH_UNDER, drawn && sides);
+    meet(c->choice == OVER ? FLIP_PATCH_OVER : FLIP_PATCH_UNDER, drawn && sides && c->service == DRAW);
     meet(FLIP_LONG_STEP, record->answer == -15 && sides);
+    meet(c->choice == OVER ? FLIP_STRIP_CURVE_OVER : FLIP_STRIP_CURVE_UNDER,
+         drawn && other && on_strip(c) && !c->patch);
+    meet(c->choice == OVER ? FLIP_STRIP_PATCH_OVER : FLIP_STRIP_PATCH_UNDER, drawn && sides && on_strip(c));
+    meet(FLIP_STRIP_STEPS, record->answer == -24 && sides);
 }
 
 static uint64_t halves_met(void) {
@@ -1410,8 +1470,10 @@ static int flip_of_object(enum service service, int patch, uint32_t large) {
     struct object_call c = {service, patch, 0, 0, 0, 0, OVER, NULL, 0, NULL, 0, NULL};
     uint8_t record[64];
     int is_large = one_in(large);
-    c.side = is_large ? 33 + below(32) : random_side();
-    if (chooses(&c))
+    c.side = on_strip(&c) ? strip_side() : is_large ? 33 + below(32) : random_side();
+    if (on_strip(&c))
+        random_object(&c, record, is_large, random_faults(STRIP_FAULTS));
+    else if (chooses(&c))
         random_chosen(&c, record, is_large, random_faults(CHOSEN_FAULTS));
     else if (service == CHECK && !patch && one_in(2))
         random_gaps(&c, record, random_faults(RECORD_FAULTS));
@@ -1427,6 +1489,79 @@ static int choose_steps_flip(void) { return flip_of_object(CHOOSE, 0, 100); }
 static int draw_chosen_flip(void) { return flip_of_object(DRAW_CHOSEN, 0, 100); }
 static int check_patch_flip(void) { return flip_of_object(CHECK, 1, 2000); }
 static int draw_patch_flip(void) { return flip_of_object(DRAW, 1, 2000); }
+static int strip_curve_flip(void) { return flip_of_object(DRAW_STRIP, 0, 100); }
+static int strip_patch_flip(void) { return flip_of_object(DRAW_STRIP, 1, 400); }
+
+/* The strip, beside the main path */
+
+/* Of the call on the strip and the one on the main path, compared last. */
+static void meet_beside(const struct object_call *c, int64_t strip, int64_t main_path) {
+    int drawn = main_path >= 0;
+    meet(c->patch ? STRIP_AS_MAIN_PATCH : STRIP_AS_MAIN_CURVE, strip >= 0);
+    meet(STRIP_REFUSED_AS_MAIN, strip < 0 && strip == main_path);
+    meet(drawn ? STRIP_23_DRAWN : STRIP_23_REFUSED, strip == -23);
+    meet(c->patch ? STRIP_24_DRAWN_PATCH : STRIP_24_DRAWN_CURVE, strip == -24 && drawn);
+    meet(STRIP_24_REFUSED, strip == -24 && !drawn);
+}
+
+/* What is wrong with the library's call on the strip beside its call on the main path, compared last, both from the grid
+   start, or NULL. */
+static const char *fault_beside(const struct object_call *c, const struct called *strip, int64_t main_path,
+                                const uint8_t *start) {
+    int beyond = c->side > GIDZKHALU_STRIP_SIDE_MOST || c->n > GIDZKHALU_STRIP_STEPS_MOST ||
+                 (c->patch && c->m > GIDZKHALU_STRIP_STEPS_MOST);
+    int own = strip->answer == -GIDZKHALU_REFUSED_STRIP_SIDE || strip->answer == -GIDZKHALU_REFUSED_STRIP_STEPS;
+    if (main_path < 0 && strip->answer >= 0)
+        return "the strip accepts what the main path refuses";
+    if (main_path >= 0 && (strip->answer < 0) != beyond)
+        return "of what the main path accepts, the strip does not refuse what is beyond it, and that alone";
+    if (own && !beyond)
+        return "the strip refuses what is not beyond it with 23 or 24";
+    if (strip->answer < 0 && strip->count < 0x80000000)
+        return "the strip refuses and writes a count of new cells";
+    if (strip->answer < 0 && memcmp(strip->left, start, grid.len) != 0)
+        return "the strip refuses and leaves another grid";
+    if (own)
+        return NULL;
+    if (strip->answer != main_path)
+        return "the strip has another answer than the main path";
+    if (main_path >= 0 && strip->count != *number_at(new_cells.got))
+        return "the strip has other new cells than the main path";
+    if (memcmp(strip->left, grid.got, grid.len) != 0)
+        return "the strip leaves another grid than the main path";
+    return NULL;
+}
+
+/* The call on the strip and, from the same bytes, on the main path. */
+static int strip_case(int patch, int large, unsigned faults) {
+    static uint8_t start[LONGEST_GRID], left[LONGEST_GRID];
+    struct object_call c = {DRAW_STRIP, patch, large ? 17 : strip_side(), 0, 0, 0, OVER, NULL, 0, NULL, 0, NULL};
+    struct object_call on_main_path;
+    struct called strip = {0, left, 0};
+    uint8_t record[64];
+    const char *fault;
+    int64_t answer;
+    random_object(&c, record, large, faults);
+    lend_bytes(&points, record, c.points_len);
+    lend_cube(&grid, c.lent_len);
+    memcpy(start, grid.got, grid.len);
+    if (!compare_drawing(&c, &strip.answer))
+        return 0;
+    memcpy(left, grid.got, grid.len);
+    strip.count = *number_at(new_cells.got);
+    lend_bytes(&grid, start, grid.len);
+    on_main_path = c;
+    on_main_path.service = DRAW;
+    if (!compare_object(&on_main_path, &answer))
+        return 0;
+    meet_beside(&c, strip.answer, answer);
+    fault = fault_beside(&c, &strip, answer, start);
+    return fault == NULL || print_drawing(fault, &c, start);
+}
+
+static int strip_curve(void) { return strip_case(0, 0, random_faults(STRIP_FAULTS)); }
+static int strip_patch(void) { return strip_case(1, 0, random_faults(STRIP_FAULTS)); }
+static int large_strip(void) { return strip_case(!one_in(8), 1, one_in(8) ? random_faults(STRIP_FAULTS) : 0); }
 
 /* Two drawings into one grid */
 
@@ -1469,11 +1604,11 @@ static int drawn_again(struct object_call *c) {
     return 0;
 }
 
-/* A patch, or a curve, its count passed or chosen, or a path. */
+/* A patch, or a curve, its count passed or chosen, or a path; patches and curves on the strip too. */
 static enum service random_drawing(int *patch) {
-    static const enum service of_curve[] = {DRAW, DRAW, DRAW_CHOSEN, DRAW_PATH};
+    static const enum service of_curve[] = {DRAW, DRAW, DRAW_CHOSEN, DRAW_PATH, DRAW_STRIP};
     *patch = one_in(3);
-    return *patch ? DRAW : of_curve[below(4)];
+    return !*patch ? of_curve[below(5)] : one_in(4) ? DRAW_STRIP : DRAW;
 }
 
 /* Into an unmarked grid, or one that holds marks: an object, then the same or another one. */
@@ -1620,7 +1755,7 @@ static int list_holds(int length, const uint8_t *start) {
 static int list_of_calls(void) {
     static uint8_t start[CELLS];
     uint32_t side = random_side();
-    int length = (int)below(CALLS + 1), accepted[2] = {0, 0}, curves[2] = {0, 0}, paths[2] = {0, 0};
+    int length = (int)below(CALLS + 1), accepted[2] = {0, 0}, curves[2] = {0, 0}, paths[2] = {0, 0}, strip[2] = {0, 0};
     size_t added = 0;
     const char *fault;
     lend_cube(&grid, (size_t)side * side * side);
@@ -1636,11 +1771,14 @@ static int list_of_calls(void) {
             curves[chooses(&calls[k])]++;
         if (call_accepted[k])
             paths[of_path(&calls[k])]++;
+        if (call_accepted[k])
+            strip[on_strip(&calls[k])]++;
     }
     meet(LIST_OF_THREE, accepted[OVER] + accepted[UNDER] >= 3);
     meet(LIST_OF_BOTH, accepted[OVER] > 0 && accepted[UNDER] > 0);
     meet(LIST_OF_CHOSEN, curves[0] > 0 && curves[1] > 0);
     meet(LIST_OF_PATHS, paths[0] > 0 && paths[1] > 0);
+    meet(LIST_OF_STRIP, strip[0] > 0 && strip[1] > 0);
     if (added != unmarked_cells(start, grid.len) - unmarked_cells(grid.got, grid.len))
         return print_list("the new cells do not add up", length, start);
     return list_holds(length, start) || print_list("demand 3's first sentence does not hold", length, start);
@@ -1799,6 +1937,41 @@ static int known_choice(size_t k, int axis, enum service service) {
         held[STRIDE[axis] * at] = PLACED[k].after[at];
     return (memcmp(grid.got, held, sizeof held) == 0 && (answer < 0 || *number_at(new_cells.got) == PLACED[k].count)) ||
            known_failed("K1, over or under");
+}
+
+/* A curve or a patch that stays in cell 1 1 1, into an unmarked grid, on the strip. */
+static const struct {
+    int patch;
+    uint32_t side, n, m;
+    uint8_t mark;
+    int64_t answer;
+} STRIPPED[] = {{0, 2, 1, 0, 9, 2},       {0, 2, 64, 0, 9, 65},      {0, 17, 64, 0, 9, 65},    {0, 17, 65, 0, 9, -24},
+                {0, 17, 512, 0, 9, -24},  {0, 17, 513, 0, 9, -13},   {0, 17, 0, 0, 9, -13},    {0, 17, 65, 0, 0, -12},
+                {0, 18, 1, 0, 9, -23},    {0, 18, 513, 0, 0, -23},   {0, 64, 65, 0, 9, -23},   {0, 65, 1, 0, 9, -11},
+                {0, 1, 65, 0, 9, -11},    {1, 2, 1, 1, 9, 4},        {1, 17, 64, 64, 9, 4225}, {1, 17, 65, 64, 9, -24},
+                {1, 17, 64, 65, 9, -24},  {1, 17, 256, 256, 9, -24}, {1, 17, 257, 65, 9, -13}, {1, 17, 65, 257, 9, -13},
+                {1, 17, 0, 65, 9, -13},   {1, 17, 65, 0, 9, -13},    {1, 17, 65, 65, 0, -12},  {1, 18, 64, 64, 9, -23},
+                {1, 64, 65, 257, 0, -23}, {1, 65, 65, 65, 9, -11},   {1, 1, 64, 64, 9, -11}};
+
+static int known_strip(size_t k, uint32_t choice) {
+    static const uint8_t unmarked[65 * 65 * 65];
+    struct object_call c = {DRAW_STRIP, STRIPPED[k].patch, STRIPPED[k].side, 0, 0, 0, choice, NULL, 0, NULL, 0, NULL};
+    uint8_t record[48];
+    size_t at = 1 + c.side + (size_t)c.side * c.side;
+    int64_t answer;
+    memset(record, 1, sizeof record);
+    c.n = STRIPPED[k].n;
+    c.m = STRIPPED[k].m;
+    c.mark = STRIPPED[k].mark;
+    c.points_len = c.patch ? 48 : 12;
+    c.lent_len = (size_t)c.side * c.side * c.side;
+    lend_bytes(&points, record, c.points_len);
+    lend_bytes(&grid, unmarked, c.lent_len);
+    if (!compare_object(&c, &answer) || answer != STRIPPED[k].answer)
+        return known_failed("of the strip");
+    return (unmarked_cells(grid.got, grid.len) == grid.len - (answer >= 0) &&
+            (answer < 0 || (grid.got[at] == 9 && *number_at(new_cells.got) == 1))) ||
+           known_failed("of the strip");
 }
 
 /* One axis of a curve of side 64, the others are 0, or all three alike: what a check answers. */
@@ -2068,6 +2241,11 @@ static int document_samples(void) {
     for (size_t k = 0; k < sizeof PLACED / sizeof *PLACED; k++)
         for (int axis = 0; axis < 3; axis++)
             good &= known_choice(k, axis, DRAW) & known_choice(k, axis, DRAW_CHOSEN);
+    for (size_t k = 0; k < sizeof PLACED / sizeof *PLACED; k++)
+        for (int axis = 0; axis < 3; axis++)
+            good &= known_choice(k, axis, DRAW_STRIP);
+    for (size_t k = 0; k < sizeof STRIPPED / sizeof *STRIPPED; k++)
+        good &= known_strip(k, GIDZKHALU_OVER) & known_strip(k, GIDZKHALU_UNDER);
     for (size_t k = 0; k < sizeof CHECKED / sizeof *CHECKED; k++)
         for (int axis = 0; axis <= 3; axis++)
             good &= known_check(k, axis);
@@ -2093,6 +2271,11 @@ static const int CHECK_ORDER[] = {51, 11, 13, 14, 15, 0}, LIST_ORDER[] = {51, 11
                  BOTH_ORDER[] = {51, 11, 21, 12, 13, 14, 15, 0}, FLIP_ORDER[] = {51, 52, 0},
                  PATH_ORDER[] = {51, 11, 13, 14, 15, 22, 0};
 
+/* Of the strip: a curve has one count, to which 13 or 24 applies. */
+static const int STRIP_ORDER[] = {51, 55, 11, 23, 21, 12, 13, 24, 14, 15, 0},
+                 STRIP_13_ORDER[] = {51, 55, 11, 23, 21, 12, 13, 14, 15, 0},
+                 STRIP_24_ORDER[] = {51, 55, 11, 23, 21, 12, 24, 14, 15, 0};
+
 static const struct kind {
     const char *name;
     uint64_t cases;
@@ -2111,6 +2294,8 @@ static const struct kind {
             {"path by samples", 200000, path_by_samples, {NULL, NULL}},
             {"check patch", 1000000, check_patch, {CHECK_ORDER, NULL}},
             {"draw patch", 1000000, draw_patch, {DRAW_ORDER, NULL}},
+            {"strip curve", 500000, strip_curve, {STRIP_13_ORDER, STRIP_24_ORDER}},
+            {"strip patch", 300000, strip_patch, {STRIP_ORDER, NULL}},
             {"flip curve", 500000, flip_curve, {FLIP_ORDER, NULL}},
             {"flip patch", 500000, flip_patch, {FLIP_ORDER, NULL}},
             {"check curve, flip", 300000, check_curve_flip, {CHECK_ORDER, NULL}},
@@ -2120,6 +2305,8 @@ static const struct kind {
             {"draw chosen, flip", 100000, draw_chosen_flip, {CHOSEN_ORDER, NULL}},
             {"check patch, flip", 100000, check_patch_flip, {CHECK_ORDER, NULL}},
             {"draw patch, flip", 100000, draw_patch_flip, {DRAW_ORDER, NULL}},
+            {"strip curve, flip", 200000, strip_curve_flip, {STRIP_13_ORDER, STRIP_24_ORDER}},
+            {"strip patch, flip", 100000, strip_patch_flip, {STRIP_ORDER, NULL}},
             {"swatch to cell", 4000000, to_cell, {CELL_ORDER, NULL}},
             {"hue to cell", 4000000, hue_to_cell, {CELL_ORDER, HUE_ORDER}},
             {"half-way", 8000000, half_way, {HALF_ORDER, NULL}},
@@ -2138,6 +2325,7 @@ static const struct kind {
             {"large choice", 50000, large_choice, {NULL, NULL}},
             {"large path", 20000, large_path, {NULL, NULL}},
             {"large patch", 3000, large_patch, {NULL, NULL}},
+            {"large strip", 3000, large_strip, {NULL, NULL}},
             {"large sheet", 5000, large_sheet, {NULL, NULL}},
             {"large listing", 1000, large_listing, {NULL, NULL}},
             {"large totals", 1000, large_totals, {NULL, NULL}}};
@@ -2181,9 +2369,9 @@ static int run_kind(int kind, double scale) {
     return number == cases;
 }
 
-/* A record of wrong length has no coordinates and no steps, and no side is outside 2 to 64 and in 41 to 64. */
+/* A record of wrong length has no coordinates and no steps, and no side is outside 2 to 64 and in 41 or 18 to 64. */
 static int never_together(int first, int second) {
-    return (first == 51 && (second == 14 || second == 15)) || (first == 11 && second == 43);
+    return (first == 51 && (second == 14 || second == 15)) || (first == 11 && (second == 43 || second == 23));
 }
 
 static int pair_met(int kind, int first, int second) {

@@ -180,6 +180,40 @@ static int64_t draw_patch(enum environment e, uint64_t number) {
     return object(e, DRAW, 1);
 }
 
+/* Mostly of a side that the strip takes; now and then with more steps than it does. */
+static int64_t drawn_on_strip(enum environment e, int patch) {
+    struct object_call c = {DRAW, patch, 0, 0, 0, 0, OVER, record, 0, NULL, 0, NULL};
+    volatile int64_t answer;
+    c.side = one_in(8) ? random_side() : 2 + below(16);
+    random_object(&c, record, 0, one_in(2) ? random_faults(ALL_FAULTS) : 0);
+    if (one_in(8))
+        *(patch && one_in(2) ? &c.m : &c.n) = 65 + below(patch ? 192 : 448);
+    lend(c.lent_len);
+    random_cube(now, c.lent_len);
+    if (patch)
+        UNDER(e, &answer,
+              gidzkhalu_draw_strip_patch(c.side, record, c.points_len, c.n, c.m, c.mark, c.choice, now, c.lent_len,
+                                         &new_cells));
+    else
+        UNDER(e, &answer,
+              gidzkhalu_draw_strip_curve(c.side, record, c.points_len, c.n, c.mark, c.choice, now, c.lent_len,
+                                         &new_cells));
+    keep_numbers(new_cells, detail);
+    snprintf(words, WORDS, "side %" PRIu32 ", n %" PRIu32 ", m %" PRIu32 ", mark %d, choice %" PRIu32, c.side, c.n, c.m,
+             c.mark, c.choice);
+    return answer;
+}
+
+static int64_t draw_strip_curve(enum environment e, uint64_t number) {
+    (void)number;
+    return drawn_on_strip(e, 0);
+}
+
+static int64_t draw_strip_patch(enum environment e, uint64_t number) {
+    (void)number;
+    return drawn_on_strip(e, 1);
+}
+
 /* Any bytes, now and then of a wrong length. */
 static int64_t flip(enum environment e, int patch) {
     size_t right = patch ? GIDZKHALU_PATCH_BYTES : GIDZKHALU_CURVE_BYTES;
@@ -341,6 +375,8 @@ static struct function {
     {"check_patch", check_patch, 20000, {0}, 0, 0, 0, {0}, {{0}}},
     {"draw_patch", draw_patch, 20000, {0}, 0, 0, 0, {0}, {{0}}},
     {"flip_patch", flip_patch, 20000, {0}, 0, 0, 0, {0}, {{0}}},
+    {"draw_strip_curve", draw_strip_curve, 50000, {0}, 0, 0, 0, {0}, {{0}}},
+    {"draw_strip_patch", draw_strip_patch, 20000, {0}, 0, 0, 0, {0}, {{0}}},
     /* A channel up to 1/128 has the coordinate 0, so a result that is flushed to 0 changes no cell. */
     {"to_cell", to_cell, 200000, {0, 0, 1, 1, 1, 1, 1, 1}, 0, 0, 0, {0}, {{0}}},
     {"half_way", half_way, 200000, {0, 1, 1, 1, 1, 1, 1, 1}, 0, 0, 0, {0}, {{0}}},
@@ -413,7 +449,7 @@ static int run_function(int k) {
         run_case(k, number);
     for (int e = DEFAULT + 1; e < ENVIRONMENTS; e++)
         same &= f->differ[e] == 0;
-    printf("%-13s %6" PRIu64 " inputs, %6" PRIu64 " accepted", f->name, f->cases, f->accepted);
+    printf("%-16s %6" PRIu64 " inputs, %6" PRIu64 " accepted", f->name, f->cases, f->accepted);
     if (f->call == check_curve)
         printf(", %" PRIu64 " of them without a walk", f->quit);
     printf("%s\n", same ? ": the same under all" : "");

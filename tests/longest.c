@@ -347,6 +347,103 @@ static void draw_patches(void) {
         draw_patches_as(DRAWINGS[k]);
 }
 
+/* The strip: curves and patches at its largest side, 17. A curve is drawn with 64 steps, where the step test quits, and with
+   47, the most with which it walks. STRIP_AXES are the curves of one axis of which no other has as many moves down and as
+   many up: 16 down, 13 down and 9 up, 12 of each, and 16 up, and the second 12 of each the other way round. Every
+   combination of them is drawn, over and under, into an unmarked grid and a marked one; of a patch, which has 64 x 64
+   steps, every row is such a curve along t. The number of instructions is that of a curve or a patch that stays in one
+   marked cell and so many more for each move, by its axis and direction, and under for each new cell. By these numbers a
+   search came to the curves and patches that wind. */
+enum {
+    STRIP_SIDE = GIDZKHALU_STRIP_SIDE_MOST,
+    STRIP_STEPS = GIDZKHALU_STRIP_STEPS_MOST,
+    STRIP_WALKED_MOST = 3 * (STRIP_SIDE - 1) - 1
+};
+
+static const uint8_t STRIP_AXES[][4] = {{16, 0, 0, 0}, {4, 16, 16, 0}, {0, 15, 16, 0}, {16, 1, 0, 16}, {0, 16, 16, 16}};
+
+enum { STRIP_COMBINATIONS = SIZE(STRIP_AXES) * SIZE(STRIP_AXES) * SIZE(STRIP_AXES) };
+
+/* The axes of a combination, of point k along t or u. */
+static void put_strip_point(uint8_t *point, size_t number, int k) {
+    for (int axis = 0; axis < 3; axis++) {
+        point[axis] = STRIP_AXES[number % SIZE(STRIP_AXES)][k];
+        number /= SIZE(STRIP_AXES);
+    }
+}
+
+static void print_points(const uint8_t *points, size_t len) {
+    printf("points");
+    for (size_t k = 0; k < len; k++)
+        printf(" %d", points[k]);
+    printf("\n");
+}
+
+static void strip_curve(uint32_t steps, const uint8_t points[GIDZKHALU_CURVE_BYTES], struct drawing drawing) {
+    int64_t answer;
+    fill_grid(drawing.held);
+    answer = gidzkhalu_draw_strip_curve(STRIP_SIDE, points, GIDZKHALU_CURVE_BYTES, steps, 255, drawing.choice, grid,
+                                        GIDZKHALU_CUBE_BYTES(STRIP_SIDE), &new_cells);
+    printf("%" PRId64 ": side %d, %" PRIu32 " steps, ", answer, STRIP_SIDE, steps);
+    print_drawing(drawing);
+    print_points(points, GIDZKHALU_CURVE_BYTES);
+}
+
+static void strip_patch(const uint8_t points[GIDZKHALU_PATCH_BYTES], struct drawing drawing) {
+    int64_t answer;
+    fill_grid(drawing.held);
+    answer = gidzkhalu_draw_strip_patch(STRIP_SIDE, points, GIDZKHALU_PATCH_BYTES, STRIP_STEPS, STRIP_STEPS, 255,
+                                        drawing.choice, grid, GIDZKHALU_CUBE_BYTES(STRIP_SIDE), &new_cells);
+    printf("%" PRId64 ": side %d, %d x %d steps, ", answer, STRIP_SIDE, STRIP_STEPS, STRIP_STEPS);
+    print_drawing(drawing);
+    print_points(points, GIDZKHALU_PATCH_BYTES);
+}
+
+/* 47 different cells with 47 steps, and 52 with 64. */
+static const uint8_t STRIP_WINDING[][GIDZKHALU_CURVE_BYTES] = {{16, 16, 16, 13, 0, 15, 1, 0, 3, 0, 16, 0},
+                                                               {1, 16, 16, 16, 0, 8, 16, 1, 7, 0, 16, 0}};
+
+static void strip_curves_as(uint32_t steps, struct drawing drawing) {
+    for (size_t number = 0; number < STRIP_COMBINATIONS; number++) {
+        uint8_t points[GIDZKHALU_CURVE_BYTES];
+        for (int k = 0; k < 4; k++)
+            put_strip_point(points + 3 * k, number, k);
+        strip_curve(steps, points, drawing);
+    }
+    for (size_t k = 0; k < SIZE(STRIP_WINDING); k++)
+        strip_curve(steps, STRIP_WINDING[k], drawing);
+}
+
+/* The last has the latest long step that there is: the last of 46, on z. */
+static void strip_curves(void) {
+    static const uint8_t late[GIDZKHALU_CURVE_BYTES] = {0, 0, 0, 0, 0, 0, 0, 0, 0, 0, 0, STRIP_SIDE - 1};
+    for (size_t k = 0; k < SIZE(DRAWINGS); k++) {
+        strip_curves_as(STRIP_STEPS, DRAWINGS[k]);
+        strip_curves_as(STRIP_WALKED_MOST, DRAWINGS[k]);
+    }
+    strip_curve(STRIP_WALKED_MOST - 1, late, DRAWINGS[0]);
+}
+
+/* 1002 and 995 different cells. */
+static const uint8_t STRIP_WINDING_PATCHES[][GIDZKHALU_PATCH_BYTES] = {
+    {16, 16, 16, 15, 0,  16, 16, 0,  16, 16, 0,  0, 0,  16, 0, 0,  16, 16, 0, 16, 16, 13, 16, 0,
+     1,  16, 0,  0,  16, 16, 0,  15, 15, 0,  16, 0, 15, 0,  0, 16, 1,  16, 2, 0,  16, 0,  0,  0},
+    {16, 16, 15, 0,  16, 16, 1,  16, 16, 2,  16, 0, 16, 0, 0, 16, 0,  16, 16, 2,  16, 16, 1,  1,
+     16, 0,  0,  16, 0,  16, 16, 0,  15, 14, 0,  0, 0,  0, 0, 0,  13, 15, 0,  16, 16, 0,  16, 0}};
+
+static void strip_patches(void) {
+    for (size_t k = 0; k < SIZE(DRAWINGS); k++) {
+        for (size_t number = 0; number < STRIP_COMBINATIONS; number++) {
+            uint8_t points[GIDZKHALU_PATCH_BYTES];
+            for (int p = 0; p < 16; p++)
+                put_strip_point(points + 3 * p, number, p / 4);
+            strip_patch(points, DRAWINGS[k]);
+        }
+        for (size_t p = 0; p < SIZE(STRIP_WINDING_PATCHES); p++)
+            strip_patch(STRIP_WINDING_PATCHES[p], DRAWINGS[k]);
+    }
+}
+
 /* Flips: every point is copied once, whatever the bytes and the counts are; a wrong length is told before. */
 static void flips(int patch) {
     size_t right = patch ? GIDZKHALU_PATCH_BYTES : GIDZKHALU_CURVE_BYTES;
@@ -532,6 +629,8 @@ static const struct {
                  {"gidzkhalu_check_patch", check_patches},
                  {"gidzkhalu_draw_patch", draw_patches},
                  {"gidzkhalu_flip_patch", flip_patches},
+                 {"gidzkhalu_draw_strip_curve", strip_curves},
+                 {"gidzkhalu_draw_strip_patch", strip_patches},
                  {"gidzkhalu_to_cell", cells},
                  {"gidzkhalu_half_way", half_ways},
                  {"gidzkhalu_draw_sheet", sheets},

@@ -36,11 +36,11 @@ awk 'match($0, /Instructions: [0-9]+/) { figure = substr($0, RSTART + 14, RLENGT
     match($0, /gidzkhalu_[a-z_]+\(/) { print substr($0, RSTART, RLENGTH - 1), figure + 0; figure = "" }' \
     include/gidzkhalu.h >$out/stated
 above=0
-printf '%-13s %12s %12s  %s\n' function instructions stated 'longest call: its answer and input'
+printf '%-16s %12s %12s  %s\n' function instructions stated 'longest call: its answer and input'
 while read -r function stated; do
     counts "$function" >$out/counts
     read -r most call < <(sort -rns $out/counts)
-    printf '%-13s %12d %12d  %s\n' "${function#gidzkhalu_}" "$most" "$stated" "$call"
+    printf '%-16s %12d %12d  %s\n' "${function#gidzkhalu_}" "$most" "$stated" "$call"
     if [ "$most" -gt "$stated" ]; then
         echo "ABOVE: ${function#gidzkhalu_} takes $most instructions, $stated are stated"
         above=$((above + 1))

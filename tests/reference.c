@@ -31,12 +31,14 @@ static size_t place(uint32_t side, int32_t x, int32_t y, int32_t z) {
 int lists(const struct object_call *c) { return c->service == LIST || c->service == LIST_PATH; }
 
 int draws(const struct object_call *c) {
-    return c->service == DRAW || c->service == DRAW_CHOSEN || c->service == DRAW_PATH;
+    return c->service == DRAW || c->service == DRAW_CHOSEN || c->service == DRAW_PATH || c->service == DRAW_STRIP;
 }
 
 int chooses(const struct object_call *c) { return c->service == CHOOSE || c->service == DRAW_CHOSEN; }
 
 int of_path(const struct object_call *c) { return c->service == LIST_PATH || c->service == DRAW_PATH; }
+
+int on_strip(const struct object_call *c) { return c->service == DRAW_STRIP; }
 
 /* Exact samples */
 
@@ -246,9 +248,19 @@ void count_neighbours(const struct samples *s, struct neighbours *n) {
 
 /* Checking, listing and drawing */
 
+static uint32_t most_steps(const struct object_call *c) { return c->patch ? 256 : 512; }
+
 static int count_outside(const struct object_call *c) {
-    uint32_t limit = c->patch ? 256 : 512;
+    uint32_t limit = most_steps(c);
     return c->n < 1 || limit < c->n || (c->patch && (c->m < 1 || limit < c->m));
+}
+
+/* Of the strip: 18 to 64, and 65 to what 13 lets pass. */
+static int side_off_strip(uint32_t side) { return 18 <= side && side <= 64; }
+
+static int count_off_strip(const struct object_call *c) {
+    uint32_t limit = most_steps(c);
+    return (65 <= c->n && c->n <= limit) || (c->patch && 65 <= c->m && c->m <= limit);
 }
 
 static int coordinate_outside(const struct object_call *c) {
@@ -276,6 +288,20 @@ static int path_list_short(const struct object_call *c, const struct order *orde
         return c->lent_len < 3;
     take_cells(s);
     return c->lent_len < 3 * cells_of_path(s);
+}
+
+static void strip_order(const struct object_call *c, struct order *order, struct samples *s) {
+    int wrong_record = c->points_len != (c->patch ? 48 : 12);
+    order_add(order, 51, wrong_record);
+    order_add(order, 55, c->choice != OVER && c->choice != UNDER);
+    order_add(order, 11, side_outside(c->side));
+    order_add(order, 23, side_off_strip(c->side));
+    order_add(order, 21, (wide)c->lent_len != volume(c->side));
+    order_add(order, 12, c->mark == 0);
+    order_add(order, 13, count_outside(c));
+    order_add(order, 24, count_off_strip(c));
+    order_add(order, 14, !wrong_record && coordinate_outside(c));
+    order_add(order, 15, !wrong_record && steps_too_long(c, order, s));
 }
 
 static void object_order(const struct object_call *c, struct order *order, struct samples *s) {
@@ -348,7 +374,10 @@ static void draw(const struct object_call *c, const struct samples *s) {
 
 int64_t reference_object(const struct object_call *c, struct order *order, struct samples *s, struct samples *path) {
     const struct samples *cells = of_path(c) ? path : s;
-    object_order(c, order, s);
+    if (on_strip(c))
+        strip_order(c, order, s);
+    else
+        object_order(c, order, s);
     if (order_first(order) != 0)
         return -order_first(order);
     if (chooses(c)) {

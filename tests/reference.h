@@ -22,8 +22,9 @@ void order_add(struct order *order, int number, int applies);
 int order_first(const struct order *order);
 
 /* A call that checks, lists or draws a curve or a patch, or chooses the step count of a curve, or draws a curve with that
-   count, or lists or draws the path of a curve. A drawing goes over what is marked, or under it. */
-enum service { CHECK, LIST, DRAW, CHOOSE, DRAW_CHOSEN, LIST_PATH, DRAW_PATH };
+   count, or lists or draws the path of a curve, or draws a curve or a patch on the strip. A drawing goes over what is
+   marked, or under it. */
+enum service { CHECK, LIST, DRAW, CHOOSE, DRAW_CHOSEN, LIST_PATH, DRAW_PATH, DRAW_STRIP, SERVICES };
 enum choice { OVER, UNDER };
 
 struct object_call {
@@ -39,11 +40,13 @@ struct object_call {
     uint32_t *new_cells; /* of a drawing */
 };
 
-/* Whether the call lists, whether it draws, whether it chooses its count, and whether it is of a path. */
+/* Whether the call lists, whether it draws, whether it chooses its count, whether it is of a path, and whether it is on the
+   strip. */
 int lists(const struct object_call *call);
 int draws(const struct object_call *call);
 int chooses(const struct object_call *call);
 int of_path(const struct object_call *call);
+int on_strip(const struct object_call *call);
 
 /* The exact values of an object, times scale, and its cells: row j's sample i is at (n + 1) j + i. */
 enum { SAMPLES = 257 * 257 };
@@ -82,7 +85,7 @@ size_t path_length(const struct object_call *call);
    and the cells of a path, without values, in path, as if each were a sample's. A check of a curve answers 1 where the test
    quits and 0 where not; 15 is found from the exact samples in any case. The new cells of a drawing are the unmarked cells
    of the whole grid before it minus those after it. Behind another number, 22 of a path is a list without room for one
-   cell. */
+   cell. 24 is a step count above 64 that is not above those that 13 lets pass. */
 int64_t reference_object(const struct object_call *call, struct order *order, struct samples *samples,
                          struct samples *path);
 

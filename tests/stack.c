@@ -6,9 +6,9 @@
    instruction down to the lowest byte that changed: the return address, the frame, the callees, and what is written
    below the stack pointer. Room that is reserved below that byte and never written does not show. Not counted are the
    arguments that the caller puts on the stack, which lie above: 8 bytes for list_part, 16 for draw_chosen, 24 for
-   draw_curve and draw_path, 32 for draw_patch. Of memset, which is all that the library takes from outside, the return address is
-   counted: the memset of this file takes no more. A call that needs more than the painted room ends the run by a signal.
-   For x86-64 and Linux alone. */
+   draw_curve, draw_path and draw_strip_curve, 32 for draw_patch and draw_strip_patch. Of memset, which is all that the
+   library takes from outside, the return address is counted: the memset of this file takes no more. A call that needs more
+   than the painted room ends the run by a signal. For x86-64 and Linux alone. */
 #define _DEFAULT_SOURCE
 #include "cases.h"
 #include "gidzkhalu.h"
@@ -146,6 +146,8 @@ enum function {
     CHECK_PATCH,
     DRAW_PATCH,
     FLIP_PATCH,
+    DRAWN_STRIP_CURVE,
+    DRAWN_STRIP_PATCH,
     TO_CELL,
     HALF_WAY,
     DRAW_SHEET,
@@ -176,6 +178,8 @@ static struct figure {
     {"check_patch", {0, 51, 11, 13, 14, 15}, -1, 0, 0, {0}, 0, ""},
     {"draw_patch", {0, 51, 55, 11, 21, 12, 13, 14, 15}, -1, 0, 0, {0}, 0, ""},
     {"flip_patch", {0, 51, 52}, -1, 0, 0, {0}, 0, ""},
+    {"draw_strip_curve", {0, 51, 55, 11, 23, 21, 12, 13, 24, 14, 15}, -1, 0, 0, {0}, 0, ""},
+    {"draw_strip_patch", {0, 51, 55, 11, 23, 21, 12, 13, 24, 14, 15}, -1, 0, 0, {0}, 0, ""},
     {"to_cell", {0, 53, 52, 11, 31, 33, 32}, -1, 0, 0, {0}, 0, ""},
     {"half_way", {0, 53, 52, 31, 33, 32}, -1, 0, 0, {0}, 0, ""},
     {"draw_sheet", {0, 21, 41, 42, 11, 43, 44, 12, 13, 14, 15}, -1, 0, 0, {0}, 0, ""},
@@ -250,10 +254,38 @@ static uint32_t new_cells, detail;
 /* A number of 32 bits in a word: above it a caller may leave anything. */
 static uint64_t half_word(uint32_t number) { return UINT64_C(0x3C3C3C3C00000000) | number; }
 
+/* Whether drawings of curves and patches are made on the strip. */
+static int asks_strip;
+
+static void measure_on_strip(const struct object_call *c) {
+    uint64_t p = PLACE(c->points), len = c->points_len, g = PLACE(c->lent), g_len = c->lent_len;
+    uint64_t side = half_word(c->side), n = half_word(c->n), m = half_word(c->m), choice = half_word(c->choice);
+    if (!c->patch) {
+        struct call call = {(uint64_t)gidzkhalu_draw_strip_curve,
+                            {side, p, len, n, c->mark, choice, g, g_len, PLACE(&new_cells)},
+                            {0}};
+        int64_t answer = gidzkhalu_draw_strip_curve(c->side, c->points, len, c->n, c->mark, c->choice, c->lent, g_len,
+                                                    &new_cells);
+        measure(DRAWN_STRIP_CURVE, answer, &call, "side %" PRIu32 ", n %" PRIu32 ", mark %d, choice %" PRIu32, c->side,
+                c->n, c->mark, c->choice);
+    } else {
+        struct call call = {(uint64_t)gidzkhalu_draw_strip_patch,
+                            {side, p, len, n, m, c->mark, choice, g, g_len, PLACE(&new_cells)},
+                            {0}};
+        int64_t answer = gidzkhalu_draw_strip_patch(c->side, c->points, len, c->n, c->m, c->mark, c->choice, c->lent,
+                                                    g_len, &new_cells);
+        measure(DRAWN_STRIP_PATCH, answer, &call,
+                "side %" PRIu32 ", n %" PRIu32 ", m %" PRIu32 ", mark %d, choice %" PRIu32, c->side, c->n, c->m, c->mark,
+                c->choice);
+    }
+}
+
 static void measure_object(const struct object_call *c) {
     uint64_t p = PLACE(c->points), len = c->points_len, g = PLACE(c->lent), g_len = c->lent_len;
     uint64_t side = half_word(c->side), n = half_word(c->n), m = half_word(c->m), choice = half_word(c->choice);
-    if (!c->patch && c->service == CHECK) {
+    if (asks_strip) {
+        measure_on_strip(c);
+    } else if (!c->patch && c->service == CHECK) {
         struct call call = {(uint64_t)gidzkhalu_check_curve, {side, p, len, n}, {0}};
         measure(CHECK_CURVE, gidzkhalu_check_curve(c->side, c->points, len, c->n), &call,
                 "side %" PRIu32 ", n %" PRIu32, c->side, c->n);
@@ -307,6 +339,14 @@ static void measure_object(const struct object_call *c) {
     }
 }
 
+/* A table of numbers. */
+struct numbers {
+    const uint32_t *at;
+    size_t many;
+};
+
+#define NUMBERS_OF(table) ((struct numbers){table, SIZE(table)})
+
 /* The least and the greatest, with the first and the last that are refused. */
 static const uint32_t SIDES[] = {0, 1, 2, 3, 40, 41, 64, 65, 0xFFFFFFFF};
 
@@ -314,6 +354,11 @@ static const uint32_t SIDES[] = {0, 1, 2, 3, 40, 41, 64, 65, 0xFFFFFFFF};
    steps there is none, and the step test walks; with 189 it quits. */
 static const uint32_t CURVE_COUNTS[] = {0, 1, 2, 3, 187, 188, 189, 511, 512, 513, 0xFFFFFFFF};
 static const uint32_t PATCH_COUNTS[] = {0, 1, 2, 187, 256, 257};
+
+/* The same on the strip, where 46, 47 and 48 steps are to side 17 what 187, 188 and 189 are to side 64. */
+static const uint32_t STRIP_SIDES[] = {0, 1, 2, 3, 17, 18, 64, 65, 0xFFFFFFFF};
+static const uint32_t STRIP_CURVE_COUNTS[] = {0, 1, 2, 3, 46, 47, 48, 63, 64, 65, 512, 513, 0xFFFFFFFF};
+static const uint32_t STRIP_PATCH_COUNTS[] = {0, 1, 46, 64, 65, 256, 257};
 
 /* Coordinates of the points, the same on the three axes; out is the least that is refused. Where the box chooses the
    count, the patterns have counts from 1 to 188 at side 64. */
@@ -390,20 +435,31 @@ static void chosen_object(struct object_call *c, uint8_t *points, enum pattern p
     }
 }
 
-/* A call that chooses its count is made once for all counts. */
-static void chosen_objects(enum service service, int patch) {
-    const uint32_t *counts = patch ? PATCH_COUNTS : CURVE_COUNTS;
-    int one_count = service == CHOOSE || service == DRAW_CHOSEN;
-    size_t many = patch ? SIZE(PATCH_COUNTS) : one_count ? 1 : SIZE(CURVE_COUNTS);
+static void objects_of(enum service service, int patch, struct numbers sides, struct numbers counts) {
     uint8_t points[64] = {0};
-    for (size_t s = 0; s < SIZE(SIDES); s++)
-        for (size_t n = 0; n < many; n++)
-            for (size_t m = 0; m < (patch ? many : 1); m++)
+    for (size_t s = 0; s < sides.many; s++)
+        for (size_t n = 0; n < counts.many; n++)
+            for (size_t m = 0; m < (patch ? counts.many : 1); m++)
                 for (int pattern = 0; pattern < PATTERNS; pattern++) {
-                    struct object_call c = {service, patch, SIDES[s], counts[n], counts[m], 0,
-                                            OVER,    NULL,  0,        NULL,      0,         NULL};
+                    struct object_call c = {service, patch, sides.at[s], counts.at[n], counts.at[m], 0,
+                                            OVER,    NULL,  0,           NULL,         0,            NULL};
                     chosen_object(&c, points, (enum pattern)pattern);
                 }
+}
+
+/* A call that chooses its count is made once for all counts. */
+static void chosen_objects(enum service service, int patch) {
+    struct numbers counts = patch ? NUMBERS_OF(PATCH_COUNTS) : NUMBERS_OF(CURVE_COUNTS);
+    if (service == CHOOSE || service == DRAW_CHOSEN)
+        counts.many = 1;
+    objects_of(service, patch, NUMBERS_OF(SIDES), counts);
+}
+
+static void chosen_strip_objects(int patch) {
+    asks_strip = 1;
+    objects_of(DRAW, patch, NUMBERS_OF(STRIP_SIDES),
+               patch ? NUMBERS_OF(STRIP_PATCH_COUNTS) : NUMBERS_OF(STRIP_CURVE_COUNTS));
+    asks_strip = 0;
 }
 
 static void random_object_call(enum service service, int patch) {
@@ -413,6 +469,19 @@ static void random_object_call(enum service service, int patch) {
     c.side = large ? 33 + below(32) : random_side();
     random_object(&c, points, large, random_faults(ALL_FAULTS));
     measure_object(&c);
+}
+
+/* Mostly of a side that the strip takes; now and then with more steps than it does. */
+static void random_strip_call(int patch) {
+    struct object_call c = {DRAW, patch, 0, 0, 0, 0, OVER, NULL, 0, grid, 0, NULL};
+    uint8_t points[64];
+    c.side = one_in(8) ? random_side() : 2 + below(16);
+    random_object(&c, points, 0, random_faults(ALL_FAULTS));
+    if (one_in(8))
+        *(patch && one_in(2) ? &c.m : &c.n) = 65 + below(patch ? 192 : 448);
+    asks_strip = 1;
+    measure_object(&c);
+    asks_strip = 0;
 }
 
 /* The calls that choose the count: those of chosen_objects, and of every side from 2 to 64 each axis alone in each of the
@@ -453,6 +522,8 @@ static void chosen_list_paths(void) { chosen_objects(LIST_PATH, 0); }
 static void chosen_draw_paths(void) { chosen_objects(DRAW_PATH, 0); }
 static void chosen_check_patches(void) { chosen_objects(CHECK, 1); }
 static void chosen_draw_patches(void) { chosen_objects(DRAW, 1); }
+static void chosen_strip_curves(void) { chosen_strip_objects(0); }
+static void chosen_strip_patches(void) { chosen_strip_objects(1); }
 
 static void random_check_curve(void) { random_object_call(CHECK, 0); }
 static void random_list_curve(void) { random_object_call(LIST, 0); }
@@ -463,6 +534,8 @@ static void random_list_path(void) { random_object_call(LIST_PATH, 0); }
 static void random_draw_path(void) { random_object_call(DRAW_PATH, 0); }
 static void random_check_patch(void) { random_object_call(CHECK, 1); }
 static void random_draw_patch(void) { random_object_call(DRAW, 1); }
+static void random_strip_curve(void) { random_strip_call(0); }
+static void random_strip_patch(void) { random_strip_call(1); }
 
 /* Flips */
 
@@ -810,16 +883,16 @@ static void random_refusal_line(void) {
 enum { RANDOM_CALLS = 5000 };
 
 static void (*const CHOSEN[FUNCTIONS])(void) = {
-    chosen_check_curves, chosen_list_curves, chosen_draw_curves, chosen_choose_steps,  chosen_draws_with_chosen,
-    chosen_flip_curves,  chosen_list_paths,  chosen_draw_paths,  chosen_check_patches, chosen_draw_patches,
-    chosen_flip_patches, chosen_to_cells,    chosen_half_ways,   chosen_sheets,        chosen_parts,
-    chosen_totals,       chosen_lines};
+    chosen_check_curves, chosen_list_curves,  chosen_draw_curves,   chosen_choose_steps,  chosen_draws_with_chosen,
+    chosen_flip_curves,  chosen_list_paths,   chosen_draw_paths,    chosen_check_patches, chosen_draw_patches,
+    chosen_flip_patches, chosen_strip_curves, chosen_strip_patches, chosen_to_cells,      chosen_half_ways,
+    chosen_sheets,       chosen_parts,        chosen_totals,        chosen_lines};
 
 static void (*const RANDOM[FUNCTIONS])(void) = {
-    random_check_curve, random_list_curve, random_draw_curve, random_choose_steps, random_draw_with_chosen,
-    random_flip_curve,  random_list_path,  random_draw_path,  random_check_patch,  random_draw_patch,
-    random_flip_patch,  random_to_cell,    random_half_way,   random_draw_sheet,   random_list_part,
-    random_totals,      random_refusal_line};
+    random_check_curve, random_list_curve,  random_draw_curve,  random_choose_steps, random_draw_with_chosen,
+    random_flip_curve,  random_list_path,   random_draw_path,   random_check_patch,  random_draw_patch,
+    random_flip_patch,  random_strip_curve, random_strip_patch, random_to_cell,      random_half_way,
+    random_draw_sheet,  random_list_part,   random_totals,      random_refusal_line};
 
 static void run(void) {
     start_run(1);
@@ -847,10 +920,10 @@ static int take_stated(const char *word) {
 }
 
 static void print_figures(void) {
-    printf("%-13s %5s %7s  %s\n", "function", "bytes", "stated", "first reached by");
+    printf("%-16s %5s %7s  %s\n", "function", "bytes", "stated", "first reached by");
     for (int k = 0; k < FUNCTIONS; k++) {
         const struct figure *f = &figures[k];
-        printf("%-13s %5zu ", f->name, f->most);
+        printf("%-16s %5zu ", f->name, f->most);
         if (f->stated < 0)
             printf("%7s  ", "none");
         else
@@ -868,7 +941,7 @@ static int print_by_answer(void) {
     printf("\nby answer:\n");
     for (int k = 0; k < FUNCTIONS; k++) {
         const struct figure *f = &figures[k];
-        printf("%-13s accepted %zu", f->name, f->most_of[0]);
+        printf("%-16s accepted %zu", f->name, f->most_of[0]);
         for (size_t n = 0; n < SIZE(f->number) && (n == 0 || f->number[n] != 0); n++) {
             all &= f->most_of[f->number[n]] > 0;
             if (f->number[n] == GIDZKHALU_QUIT)
