@@ -80,6 +80,18 @@ static answer call_draw_patch(const struct box *box, uint8_t *lent)
                            &new_cells);
 }
 
+static answer call_draw_strip_curve(const struct box *box, uint8_t *lent)
+{
+    return box->draw_strip_curve(in.side, in.points, in.points_len, in.n, in.mark, in.choice, lent, in.lent_len,
+                                 &new_cells);
+}
+
+static answer call_draw_strip_patch(const struct box *box, uint8_t *lent)
+{
+    return box->draw_strip_patch(in.side, in.points, in.points_len, in.n, in.m, in.mark, in.choice, lent, in.lent_len,
+                                 &new_cells);
+}
+
 static answer call_flip_curve(const struct box *box, uint8_t *lent)
 {
     return box->flip_curve(in.points, in.points_len, lent, in.lent_len);
@@ -150,6 +162,34 @@ static answer agree(const char *name, call_fn *call, size_t room)
     return want;
 }
 
+/* The same where the answer is known. */
+static void agree_on_known(const char *name, call_fn *call, size_t room, answer known)
+{
+    answer got = agree(name, call, room);
+    if (got != known) {
+        printf("%s: all answer %lld, not %lld\n", name, (long long)got, (long long)known);
+        exit(1);
+    }
+}
+
+/* A drawing on the strip by all; if it is accepted, the library's main path must do the same. Answers what they answer. */
+static answer agree_on_strip(const char *name, call_fn *strip, call_fn *main_path, size_t room)
+{
+    answer want = agree(name, strip, room), got;
+    uint32_t want_new = new_cells;
+    if (want < 0)
+        return want;
+    memcpy(after, before, room);
+    got = make(main_path, &library, after);
+    if (got != want || new_cells != want_new || memcmp(after, expected, room) != 0) {
+        printf("%s: strip %lld, new cells %lu; main path %lld, %lu; the bytes %s\n", name, (long long)want,
+               (unsigned long)want_new, (long long)got, (unsigned long)new_cells,
+               memcmp(after, expected, room) ? "differ" : "agree");
+        exit(1);
+    }
+    return want;
+}
+
 /* The inputs. */
 
 static void take_curve(int s, int k)
@@ -176,6 +216,26 @@ static void take_patch(int set, int k)
     in.mark = (uint8_t)(1 + k);
     in.points_len = 48;
     memcpy(in.points, patches[set][k], 48);
+}
+
+static void take_strip_curve(int k)
+{
+    in.side = STRIP_SIDE;
+    in.n = STRIP_STEPS;
+    in.mark = (uint8_t)(1 + k % 255);
+    in.points_len = 12;
+    memcpy(in.points, strip_curves[k], 12);
+    in.lent_len = STRIP_CELLS;
+}
+
+static void take_strip_patch(int k)
+{
+    in.side = STRIP_SIDE;
+    in.n = in.m = STRIP_STEPS;
+    in.mark = (uint8_t)(1 + k);
+    in.points_len = 48;
+    memcpy(in.points, strip_patches[k], 48);
+    in.lent_len = STRIP_CELLS;
 }
 
 static void take_swatches(int set, size_t i, uint32_t kind)
@@ -209,11 +269,7 @@ static void agree_on_choices(const char *name, call_fn *call)
 /* The check has the answer that is known of its input. */
 static void agree_on_check(answer known)
 {
-    answer got = agree("check_curve", call_check_curve, 0);
-    if (got != known) {
-        printf("check_curve: all answer %lld, not %lld\n", (long long)got, (long long)known);
-        exit(1);
-    }
+    agree_on_known("check_curve", call_check_curve, 0, known);
 }
 
 /* With room for the longest path, with as much as this one takes, and with one byte less. */
@@ -273,6 +329,40 @@ static void agree_on_patch(int set, int k)
     agree_on_choices("draw_patch", call_draw_patch);
     in.lent_len = 48;
     agree("flip_patch", call_flip_patch, 49);
+}
+
+static void accepted_on_strip(const char *name, call_fn *strip, call_fn *main_path, answer samples)
+{
+    for (in.choice = OVER; in.choice <= UNDER; in.choice++)
+        if (agree_on_strip(name, strip, main_path, in.lent_len + 1) != samples) {
+            printf("%s: not %lld samples\n", name, (long long)samples);
+            exit(1);
+        }
+}
+
+/* As it is, with one step more, and in the next larger cube. */
+static void agree_on_strip_curve(int k)
+{
+    take_strip_curve(k);
+    agree_on_check(QUIT);
+    accepted_on_strip("draw_strip_curve", call_draw_strip_curve, call_draw_curve, STRIP_STEPS + 1);
+    in.choice = OVER;
+    in.n = STRIP_STEPS + 1;
+    agree_on_known("draw_strip_curve", call_draw_strip_curve, ROOM, -24);
+    in.side = STRIP_SIDE + 1;
+    agree_on_known("draw_strip_curve", call_draw_strip_curve, ROOM, -23);
+}
+
+static void agree_on_strip_patch(int k)
+{
+    take_strip_patch(k);
+    accepted_on_strip("draw_strip_patch", call_draw_strip_patch, call_draw_patch,
+                      (STRIP_STEPS + 1) * (STRIP_STEPS + 1));
+    in.choice = OVER;
+    in.m = STRIP_STEPS + 1;
+    agree_on_known("draw_strip_patch", call_draw_strip_patch, ROOM, -24);
+    in.side = STRIP_SIDE + 1;
+    agree_on_known("draw_strip_patch", call_draw_strip_patch, ROOM, -23);
 }
 
 static void agree_on_swatches(int set, size_t i, uint32_t kind)
@@ -340,6 +430,10 @@ void agree_on_inputs(void)
     for (int set = 0; set < POLYGON_SETS; set++)
         for (int k = 0; k < polygons_of[set].count; k++)
             agree_on_polygon(set, k);
+    for (int k = 0; k < CURVES; k++)
+        agree_on_strip_curve(k);
+    for (int k = 0; k < PATCHES; k++)
+        agree_on_strip_patch(k);
     for (int set = 0; set < 2; set++) {
         for (int k = 0; k < PATCHES; k++)
             agree_on_patch(set, k);
@@ -407,6 +501,7 @@ static void agree_on_record(void)
 {
     agree("draw_curve", call_draw_curve, ROOM);
     agree("draw_path", call_draw_path, ROOM);
+    agree_on_strip("draw_strip_curve", call_draw_strip_curve, call_draw_curve, ROOM);
     agree("draw_chosen", call_draw_chosen, ROOM);
     agree("choose_steps", call_choose_steps, 0);
     agree("check_curve", call_check_curve, 0);
@@ -438,6 +533,7 @@ static void some_patch(void)
 {
     some_record(16, 256);
     agree("draw_patch", call_draw_patch, ROOM);
+    agree_on_strip("draw_strip_patch", call_draw_strip_patch, call_draw_patch, ROOM);
     agree("check_patch", call_check_patch, 0);
     in.lent_len = rarely(20) ? 47 + random_below(3) : 48;
     agree("flip_patch", call_flip_patch, 64);
@@ -650,6 +746,30 @@ static void wrong_paths(void)
     say_wrong("paths, n = 512: cells marked or left", count, of);
 }
 
+static void wrong_strip_curves(void)
+{
+    size_t count = 0, of = 0;
+    in.choice = OVER;
+    for (int k = 0; k < CURVES; k++) {
+        take_strip_curve(k);
+        of += both(call_draw_strip_curve, zeros, STRIP_CELLS);
+        count += wrong(STRIP_CELLS, 1);
+    }
+    say_wrong("strip, curves, n = 64: cells marked or left", count, of);
+}
+
+static void wrong_strip_patches(void)
+{
+    size_t count = 0, of = 0;
+    in.choice = OVER;
+    for (int k = 0; k < PATCHES; k++) {
+        take_strip_patch(k);
+        of += both(call_draw_strip_patch, zeros, STRIP_CELLS);
+        count += wrong(STRIP_CELLS, 1);
+    }
+    say_wrong("strip, patches, 64 × 64: cells marked or left", count, of);
+}
+
 /* A count is wrong that is accepted and not the smallest. */
 static void wrong_counts(int set, const char *what)
 {
@@ -725,6 +845,8 @@ void count_wrong_cells(void)
     wrong_patches(0, UNDER, "patches, 64 × 64, under: cells marked or left");
     wrong_patches(1, OVER, "patches, 256 × 256: cells marked or left");
     wrong_patches(1, UNDER, "patches, 256 × 256, under: cells marked or left");
+    wrong_strip_curves();
+    wrong_strip_patches();
     wrong_swatches(BRIGHT, 0, "swatches, bright: cells", "swatches, bright: half-way");
     wrong_swatches(DARK, 0, "swatches, dark: cells", "swatches, dark: half-way");
     wrong_swatches(HUES, 2, "hues: cells", "hues: half-way");

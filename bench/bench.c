@@ -4,9 +4,15 @@
      bench times P N [R..]   N rounds of every row, or of the rows R..: a line with P, the row's number and the
                              nanoseconds a unit of library, (a), (b), (c) and the other build
      bench table             the table made of such lines from standard input; P tells apart where code was placed
+     bench strip P N [R..]   N rounds of every row of a drawing on the strip: a line with P, the row's number and the
+                             nanoseconds a call of the strip, the strip once more, the main path and the main path once
+                             more
+     bench strip_table       the table made of such lines from standard input
      bench rows [R..]        for each row its number, name, unit and functions
-     bench count R K         one run of row R by box K (0 the library, 1 to 4 the others), for instructions to be
-                             counted from outside; prints its units */
+     bench strip_rows [R..]  the same of the rows of drawings on the strip
+     bench count R K         one run of row R by box K (0 the library, 1 to 4 the others, 5 and 6 library and other build
+                             with the main path in the place of the strip), for instructions to be counted from outside;
+                             prints its units */
 #define _POSIX_C_SOURCE 199309L
 #include <math.h>
 #include <stdbool.h>
@@ -33,6 +39,8 @@ static const struct box boxes[] = {
 enum {
     BOXES = sizeof boxes / sizeof *boxes,
     OTHER_BUILD = 4,
+    MAIN_PATH = 5,
+    STRIP_BOXES = 4,
     PLACES = 4,
     PARTS = 4,
     PART = SHEET_CELLS / PARTS,
@@ -42,6 +50,9 @@ enum {
 static uint8_t grid[CELLS], list[3 * (3 * STEPS + 1)], buffer[SHEET_CELLS], text[21 * (PART + 1) + 1];
 static uint8_t cubes[2][SHEETS][SHEET_CELLS];
 static uint32_t marked[2]; /* cells of all cubes of a set */
+
+/* The library, and the other build if there is one, with the main path in the place of the strip. */
+static struct box main_path[2];
 
 /* Three bytes or twelve for each swatch. */
 static uint8_t *out;
@@ -281,6 +292,61 @@ static size_t flip_patches(const struct box *box, int set)
     return (size_t)times_over * CURVES;
 }
 
+/* The strip has as many grids as the cells of one of side 64 hold, and each is drawn into by so many calls in turn: few
+   fillings are enough for grids of unmarked cells. */
+static uint8_t *strip_grid(int way, int k, int together)
+{
+    int grids = CELLS / STRIP_CELLS;
+    prepare_grid(way, k, together * grids);
+    return grid + k / together % grids * STRIP_CELLS;
+}
+
+static size_t draw_strip_curves(const struct box *box, int way)
+{
+    uint32_t new_cells;
+    if (!box->draw_strip_curve)
+        return 0;
+    for (int k = 0; k < times_over * CURVES; k++)
+        total += box->draw_strip_curve(STRIP_SIDE, strip_curves[k % CURVES], 12, STRIP_STEPS, 1, choice_of(way),
+                                       strip_grid(way, k, 16), STRIP_CELLS, &new_cells);
+    return (size_t)times_over * CURVES;
+}
+
+static size_t draw_strip_patches(const struct box *box, int way)
+{
+    uint32_t new_cells;
+    if (!box->draw_strip_patch)
+        return 0;
+    for (int k = 0; k < PATCHES; k++)
+        total += box->draw_strip_patch(STRIP_SIDE, strip_patches[k], 48, STRIP_STEPS, STRIP_STEPS, 1, choice_of(way),
+                                       strip_grid(way, k, 1), STRIP_CELLS, &new_cells);
+    return PATCHES;
+}
+
+/* One cell more along each edge: refused by 23. */
+static size_t refuse_strip_curves(const struct box *box, int way)
+{
+    uint32_t side = STRIP_SIDE + 1, new_cells;
+    if (!box->draw_strip_curve)
+        return 0;
+    for (int k = 0; k < times_over * CURVES; k++)
+        total += box->draw_strip_curve(side, strip_curves[k % CURVES], 12, STRIP_STEPS, 1, choice_of(way), grid,
+                                       (size_t)side * side * side, &new_cells);
+    return (size_t)times_over * CURVES;
+}
+
+/* One step more along u: refused by 24. */
+static size_t refuse_strip_patches(const struct box *box, int way)
+{
+    uint32_t new_cells;
+    if (!box->draw_strip_patch)
+        return 0;
+    for (int k = 0; k < times_over * CURVES; k++)
+        total += box->draw_strip_patch(STRIP_SIDE, strip_patches[k % PATCHES], 48, STRIP_STEPS, STRIP_STEPS + 1, 1,
+                                       choice_of(way), grid, STRIP_CELLS, &new_cells);
+    return (size_t)times_over * CURVES;
+}
+
 static size_t cells_of(const struct box *box, int set, uint32_t kind)
 {
     for (size_t i = 0; i < swatches; i++) {
@@ -430,6 +496,18 @@ static const struct row {
     {"draw it under, cells marked", "sample", "draw_patch", large_patches, UNDER_MARKED, 4},
     {"check it", "sample", "check_patch", check_patches, 1, 3},
     {"flip a patch", "call", "flip_patch", flip_patches, 0, 4},
+    {"draw a curve on the strip, n = 64, side 17, over, cells unmarked", "call", "draw_strip_curve", draw_strip_curves,
+     OVER_UNMARKED, 4},
+    {"draw it over, cells marked", "call", "draw_strip_curve", draw_strip_curves, OVER_MARKED, 4},
+    {"draw it under, cells unmarked", "call", "draw_strip_curve", draw_strip_curves, UNDER_UNMARKED, 4},
+    {"draw it under, cells marked", "call", "draw_strip_curve", draw_strip_curves, UNDER_MARKED, 4},
+    {"refuse it with side 18 (23)", "call", "draw_strip_curve", refuse_strip_curves, OVER_MARKED, 3},
+    {"draw a patch on the strip, 64 × 64, side 17, over, cells unmarked", "call", "draw_strip_patch", draw_strip_patches,
+     OVER_UNMARKED, 4},
+    {"draw it over, cells marked", "call", "draw_strip_patch", draw_strip_patches, OVER_MARKED, 4},
+    {"draw it under, cells unmarked", "call", "draw_strip_patch", draw_strip_patches, UNDER_UNMARKED, 4},
+    {"draw it under, cells marked", "call", "draw_strip_patch", draw_strip_patches, UNDER_MARKED, 4},
+    {"refuse it with 64 × 65 steps (24)", "call", "draw_strip_patch", refuse_strip_patches, OVER_MARKED, 3},
     {"swatch to cell, colour, bright", "call", "to_cell", color_cells, BRIGHT, 4},
     {"swatch to cell, colour, dark", "call", "to_cell", color_cells, DARK, 4},
     {"swatch to cell, grey, bright", "call", "to_cell", grey_cells, BRIGHT, 4},
@@ -453,9 +531,20 @@ static const struct row {
 
 enum { ROWS = sizeof rows / sizeof *rows };
 
+/* Drawings on the strip, which the main path also makes. */
+static bool is_of_strip(const struct row *row)
+{
+    return row->run == draw_strip_curves || row->run == draw_strip_patches;
+}
+
 static void make(size_t swatch_count)
 {
     make_inputs(swatch_count);
+    for (int k = 0; k < 2; k++) {
+        main_path[k] = boxes[k == 0 ? 0 : BOXES - 1];
+        main_path[k].draw_strip_curve = main_path[k].draw_curve;
+        main_path[k].draw_strip_patch = main_path[k].draw_patch;
+    }
     out = calloc(swatch_count, 12);
     if (!out)
         exit(2);
@@ -467,30 +556,51 @@ static void make(size_t swatch_count)
         }
 }
 
-/* One round: all boxes one after the other, in an order drawn anew. */
-static void time_round(const struct row *row, double times[BOXES])
+/* The boxes that are timed beside one another: all, or strip and main path. */
+struct boxes {
+    int count;
+    const struct box *box[BOXES];
+};
+
+static struct boxes all_boxes(void)
+{
+    struct boxes all = {BOXES, {NULL}};
+    for (int k = 0; k < BOXES; k++)
+        all.box[k] = &boxes[k];
+    return all;
+}
+
+/* Each twice: how far two times of the same function differ. Both run equally often: the branches of what runs more often
+   are foreseen better. */
+static struct boxes strip_boxes(void)
+{
+    return (struct boxes){STRIP_BOXES, {&boxes[0], &boxes[0], &main_path[0], &main_path[0]}};
+}
+
+/* One round: the boxes one after the other, in an order drawn anew. */
+static void time_round(const struct row *row, const struct boxes *among, double times[BOXES])
 {
     int order[BOXES];
-    for (int k = 0; k < BOXES; k++)
+    for (int k = 0; k < among->count; k++)
         order[k] = k;
-    for (int k = 0; k < BOXES; k++) {
-        int other = k + (int)random_below((uint32_t)(BOXES - k)), box = order[other];
+    for (int k = 0; k < among->count; k++) {
+        int other = k + (int)random_below((uint32_t)(among->count - k)), box = order[other];
         order[other] = order[k];
         filling = 0;
         double begin = nanoseconds();
-        size_t units = row->run(&boxes[box], row->set);
+        size_t units = row->run(among->box[box], row->set);
         times[box] = (nanoseconds() - begin - filling) / (double)units;
     }
 }
 
-static void time_row(const struct row *row, const char *place, int rounds)
+static void time_row(const struct row *row, const struct boxes *among, const char *place, int rounds)
 {
     double times[BOXES];
-    time_round(row, times);
+    time_round(row, among, times);
     while (rounds-- > 0) {
-        time_round(row, times);
+        time_round(row, among, times);
         printf("%s %d", place, (int)(row - rows));
-        for (int k = 0; k < BOXES; k++)
+        for (int k = 0; k < among->count; k++)
             printf(" %.4f", times[k]);
         printf("\n");
     }
@@ -513,21 +623,23 @@ static bool is_chosen(int row, char **numbers)
     return *at || !*numbers;
 }
 
-static void print_rows(char **numbers)
+static void print_rows(bool strip, char **numbers)
 {
     for (int i = 0; i < ROWS; i++)
-        if (is_chosen(i, numbers))
+        if (is_chosen(i, numbers) && (!strip || is_of_strip(&rows[i])))
             printf("%d|%s|%s|%s\n", i, rows[i].name, rows[i].unit, rows[i].functions);
 }
 
 /* The order of a round must not depend on the place alone. */
-static void times(const char *place, int rounds, char **numbers)
+static void times(bool strip, const char *place, int rounds, char **numbers)
 {
-    make(1000000);
+    make(strip ? 1 : 1000000);
+    times_over = strip ? 8 : times_over;
     seed((uint64_t)time(NULL));
+    struct boxes among = strip ? strip_boxes() : all_boxes();
     for (int i = 0; i < ROWS; i++)
-        if (is_chosen(i, numbers))
-            time_row(&rows[i], place, rounds);
+        if (is_chosen(i, numbers) && (!strip || is_of_strip(&rows[i])))
+            time_row(&rows[i], &among, place, rounds);
 }
 
 static struct line {
@@ -535,12 +647,12 @@ static struct line {
     double times[BOXES];
 } lines[MOST];
 
-static int read_lines(void)
+static int read_lines(int columns)
 {
     int n = 0;
     struct line l;
     while (n < MOST && scanf("%d %d", &l.place, &l.row) == 2) {
-        for (int k = 0; k < BOXES; k++)
+        for (int k = 0; k < columns; k++)
             if (scanf("%lf", &l.times[k]) != 1)
                 exit(2);
         lines[n++] = l;
@@ -554,51 +666,64 @@ static int by_size(const void *a, const void *b)
     return x < y ? -1 : x > y;
 }
 
-/* The median of a row's library times over those of a box, or of its library times alone for box 0, at a place, or at
-   all for -1; 0 if there is no line, or the box did no units and its time for one is infinite. */
-static double median(int count, int row, int place, int box)
+/* The median of a row's times of a box over those of another, or alone if the two are one, at a place, or at all for -1; 0
+   if there is no line, or the other did no units and its time for one is infinite. */
+static double median(int count, int row, int place, int box, int other)
 {
     static double values[MOST];
     size_t n = 0;
     for (int i = 0; i < count; i++) {
         const struct line *l = &lines[i];
         if (l->row == row && (place < 0 || l->place == place))
-            values[n++] = box == 0 ? l->times[0] : l->times[0] / l->times[box];
+            values[n++] = box == other ? l->times[box] : l->times[box] / l->times[other];
     }
     qsort(values, n, sizeof *values, by_size);
     return n == 0 ? 0 : values[n / 2];
 }
 
-/* The geometric mean of the places' medians; for (a) and the other build the least and the greatest too. */
-static void print_ratio(int count, int row, int box)
+/* The medians of the places: their geometric mean, the least and the greatest. */
+struct ratio {
+    int places;
+    double mean, least, most;
+};
+
+static struct ratio ratio_of(int count, int row, int box, int other)
 {
-    double logs = 0, least = 1e9, most = 0;
-    int places = 0;
+    struct ratio r = {0, 0, 1e9, 0};
+    double logs = 0;
     for (int p = 0; p < PLACES; p++) {
-        double m = median(count, row, p, box);
+        double m = median(count, row, p, box, other);
         if (m == 0)
             continue;
-        places++;
+        r.places++;
         logs += log(m);
-        least = m < least ? m : least;
-        most = m > most ? m : most;
+        r.least = m < r.least ? m : r.least;
+        r.most = m > r.most ? m : r.most;
     }
-    if (places == 0) {
+    r.mean = exp(logs / r.places);
+    return r;
+}
+
+/* The library's ratio to a box; to (a) and the other build also by place. */
+static void print_ratio(int count, int row, int box)
+{
+    struct ratio r = ratio_of(count, row, 0, box);
+    if (r.places == 0) {
         printf(" none | |");
         return;
     }
-    printf(" %.2f |", exp(logs / places));
+    printf(" %.2f |", r.mean);
     if (box == 1 || box == OTHER_BUILD)
-        printf(" %.2f to %.2f |", least, most);
+        printf(" %.2f to %.2f |", r.least, r.most);
 }
 
 static void table(void)
 {
-    int count = read_lines();
+    int count = read_lines(BOXES);
     printf("| call | library, ns | / (a) | by place | / (b) | / (c) |%s\n|---|---|---|---|---|---|%s\n",
            BOXES > OTHER_BUILD ? " / before | by place |" : "", BOXES > OTHER_BUILD ? "---|---|" : "");
     for (int row = 0; row < ROWS; row++) {
-        double own = median(count, row, -1, 0);
+        double own = median(count, row, -1, 0, 0);
         if (own == 0)
             continue;
         printf("| %s | %.*f a %s |", rows[row].name, own < 1000 ? 2 : 0, own, rows[row].unit);
@@ -607,6 +732,31 @@ static void table(void)
         printf("%s", rows[row].boxes == 3 ? " none |" : "");
         if (BOXES > OTHER_BUILD)
             print_ratio(count, row, OTHER_BUILD);
+        printf("\n");
+    }
+}
+
+static void print_strip_ratio(int count, int row, int box, int other)
+{
+    struct ratio r = ratio_of(count, row, box, other);
+    printf(" %.3f | %.3f to %.3f |", r.mean, r.least, r.most);
+}
+
+static void strip_table(void)
+{
+    int count = read_lines(STRIP_BOXES);
+    if (count == 0)
+        return;
+    printf("| call | strip, ns | main path, ns | strip / main path | by place | strip / itself | by place | main path / itself "
+           "| by place |\n|---|---|---|---|---|---|---|---|---|\n");
+    for (int row = 0; row < ROWS; row++) {
+        double strip = median(count, row, -1, 0, 0), path = median(count, row, -1, 2, 2);
+        if (strip == 0)
+            continue;
+        printf("| %s | %.2f | %.2f |", rows[row].name, strip, path);
+        print_strip_ratio(count, row, 0, 2);
+        print_strip_ratio(count, row, 1, 0);
+        print_strip_ratio(count, row, 3, 2);
         printf("\n");
     }
 }
@@ -632,11 +782,11 @@ static void check(void)
 
 static void count(const struct row *row, int box)
 {
-    if (box < 0 || box >= BOXES)
+    if (box < 0 || (box >= BOXES && box < MAIN_PATH) || box > MAIN_PATH + 1)
         exit(2);
     make(10000);
     times_over = 1;
-    printf("%zu\n", row->run(&boxes[box], row->set));
+    printf("%zu\n", row->run(box < MAIN_PATH ? &boxes[box] : &main_path[box - MAIN_PATH], row->set));
 }
 
 int main(int argc, char **argv)
@@ -645,11 +795,17 @@ int main(int argc, char **argv)
     if (strcmp(mode, "check") == 0)
         check();
     else if (strcmp(mode, "times") == 0 && argc > 3)
-        times(argv[2], atoi(argv[3]), argv + 4);
+        times(false, argv[2], atoi(argv[3]), argv + 4);
     else if (strcmp(mode, "table") == 0)
         table();
+    else if (strcmp(mode, "strip") == 0 && argc > 3)
+        times(true, argv[2], atoi(argv[3]), argv + 4);
+    else if (strcmp(mode, "strip_table") == 0)
+        strip_table();
     else if (strcmp(mode, "rows") == 0)
-        print_rows(argv + 2);
+        print_rows(false, argv + 2);
+    else if (strcmp(mode, "strip_rows") == 0)
+        print_rows(true, argv + 2);
     else if (strcmp(mode, "count") == 0 && argc == 4)
         count(row_of(argv[2]), atoi(argv[3]));
     else

@@ -31,6 +31,8 @@ typedef answer draw_patch_fn(uint32_t side, const uint8_t *points, size_t points
                              uint8_t mark, uint32_t choice, uint8_t *grid, size_t grid_len, uint32_t *new_cells);
 typedef answer flip_patch_fn(const uint8_t *points, size_t points_len, uint32_t *n, uint32_t *m, uint8_t *flipped,
                              size_t flipped_len);
+typedef draw_curve_fn draw_strip_curve_fn;
+typedef draw_patch_fn draw_strip_patch_fn;
 typedef answer to_cell_fn(uint32_t side, uint32_t kind, float a, float b, float c, uint8_t *cell, size_t cell_len);
 typedef answer half_way_fn(uint32_t kind, float a, float b, float c, uint32_t kind2, float a2, float b2, float c2,
                            uint8_t *channels, size_t channels_len);
@@ -54,6 +56,8 @@ struct box {
     check_patch_fn *check_patch;
     draw_patch_fn *draw_patch;
     flip_patch_fn *flip_patch;
+    draw_strip_curve_fn *draw_strip_curve;
+    draw_strip_patch_fn *draw_strip_patch;
     to_cell_fn *to_cell;
     half_way_fn *half_way;
     draw_sheet_fn *draw_sheet;
@@ -62,31 +66,34 @@ struct box {
     refusal_line_fn *refusal_line;
 };
 
-#define DECLARE_BOX(prefix)                \
-    check_curve_fn prefix##_check_curve;   \
-    list_curve_fn prefix##_list_curve;     \
-    draw_curve_fn prefix##_draw_curve;     \
-    choose_steps_fn prefix##_choose_steps; \
-    draw_chosen_fn prefix##_draw_chosen;   \
-    flip_curve_fn prefix##_flip_curve;     \
-    list_path_fn prefix##_list_path;       \
-    draw_path_fn prefix##_draw_path;       \
-    check_patch_fn prefix##_check_patch;   \
-    draw_patch_fn prefix##_draw_patch;     \
-    flip_patch_fn prefix##_flip_patch;     \
-    to_cell_fn prefix##_to_cell;           \
-    half_way_fn prefix##_half_way;         \
-    draw_sheet_fn prefix##_draw_sheet;     \
-    list_part_fn prefix##_list_part;       \
-    totals_fn prefix##_totals;             \
+#define DECLARE_BOX(prefix)                        \
+    check_curve_fn prefix##_check_curve;           \
+    list_curve_fn prefix##_list_curve;             \
+    draw_curve_fn prefix##_draw_curve;             \
+    choose_steps_fn prefix##_choose_steps;         \
+    draw_chosen_fn prefix##_draw_chosen;           \
+    flip_curve_fn prefix##_flip_curve;             \
+    list_path_fn prefix##_list_path;               \
+    draw_path_fn prefix##_draw_path;               \
+    check_patch_fn prefix##_check_patch;           \
+    draw_patch_fn prefix##_draw_patch;             \
+    flip_patch_fn prefix##_flip_patch;             \
+    draw_strip_curve_fn prefix##_draw_strip_curve; \
+    draw_strip_patch_fn prefix##_draw_strip_patch; \
+    to_cell_fn prefix##_to_cell;                   \
+    half_way_fn prefix##_half_way;                 \
+    draw_sheet_fn prefix##_draw_sheet;             \
+    list_part_fn prefix##_list_part;               \
+    totals_fn prefix##_totals;                     \
     refusal_line_fn prefix##_refusal_line
 
 #define BOX(prefix)                                                                                           \
     {                                                                                                         \
         #prefix, prefix##_check_curve, prefix##_list_curve, prefix##_draw_curve, prefix##_choose_steps,       \
             prefix##_draw_chosen, prefix##_flip_curve, prefix##_list_path, prefix##_draw_path,                \
-            prefix##_check_patch, prefix##_draw_patch, prefix##_flip_patch, prefix##_to_cell,                 \
-            prefix##_half_way, prefix##_draw_sheet, prefix##_list_part, prefix##_totals, prefix##_refusal_line \
+            prefix##_check_patch, prefix##_draw_patch, prefix##_flip_patch, prefix##_draw_strip_curve,        \
+            prefix##_draw_strip_patch, prefix##_to_cell, prefix##_half_way, prefix##_draw_sheet,              \
+            prefix##_list_part, prefix##_totals, prefix##_refusal_line                                        \
     }
 
 DECLARE_BOX(gidzkhalu);
@@ -103,6 +110,8 @@ DECLARE_BOX(before); /* another build of the library */
 #pragma weak before_list_path
 #pragma weak before_draw_path
 #pragma weak before_flip_patch
+#pragma weak before_draw_strip_curve
+#pragma weak before_draw_strip_patch
 #endif
 
 #endif

@@ -16,6 +16,12 @@
 
 #include <string.h>
 
+#if defined(__GNUC__)
+#define WHOLE __attribute__((noinline)) /* the main path is not split for the strip, which calls it */
+#else
+#define WHOLE
+#endif
+
 /* Curves. */
 
 /* The step test: WALKED, QUIT or -15. */
@@ -51,8 +57,8 @@ answer CALL(list_curve)(uint32_t side, const uint8_t *points, size_t points_len,
     return (answer)steps + 1;
 }
 
-answer CALL(draw_curve)(uint32_t side, const uint8_t *points, size_t points_len, uint32_t steps, uint8_t mark,
-                        uint32_t choice, uint8_t *grid, size_t grid_len, uint32_t *new_cells)
+WHOLE answer CALL(draw_curve)(uint32_t side, const uint8_t *points, size_t points_len, uint32_t steps, uint8_t mark,
+                              uint32_t choice, uint8_t *grid, size_t grid_len, uint32_t *new_cells)
 {
     if (points_len != 12)
         return -51;
@@ -116,8 +122,8 @@ answer CALL(check_patch)(uint32_t side, const uint8_t *points, size_t points_len
     return patch_step_too_long(points, n, m) ? -15 : 0;
 }
 
-answer CALL(draw_patch)(uint32_t side, const uint8_t *points, size_t points_len, uint32_t n, uint32_t m, uint8_t mark,
-                        uint32_t choice, uint8_t *grid, size_t grid_len, uint32_t *new_cells)
+WHOLE answer CALL(draw_patch)(uint32_t side, const uint8_t *points, size_t points_len, uint32_t n, uint32_t m,
+                              uint8_t mark, uint32_t choice, uint8_t *grid, size_t grid_len, uint32_t *new_cells)
 {
     if (points_len != 48)
         return -51;
@@ -133,6 +139,32 @@ answer CALL(draw_patch)(uint32_t side, const uint8_t *points, size_t points_len,
     else
         *new_cells = mark_rows(side, points, n, m, mark, false, grid);
     return (answer)((n + 1) * (m + 1));
+}
+
+/* The strip: two rules around the main path. */
+
+answer CALL(draw_strip_curve)(uint32_t side, const uint8_t *points, size_t points_len, uint32_t steps, uint8_t mark,
+                              uint32_t choice, uint8_t *grid, size_t grid_len, uint32_t *new_cells)
+{
+    if (side <= 17 && steps <= 64)
+        return CALL(draw_curve)(side, points, points_len, steps, mark, choice, grid, grid_len, new_cells);
+    if (points_len != 12)
+        return -51;
+    if (choice > UNDER)
+        return -55;
+    return -order_off_strip(side, grid_len, mark, is_count_out(512, steps));
+}
+
+answer CALL(draw_strip_patch)(uint32_t side, const uint8_t *points, size_t points_len, uint32_t n, uint32_t m,
+                              uint8_t mark, uint32_t choice, uint8_t *grid, size_t grid_len, uint32_t *new_cells)
+{
+    if (side <= 17 && n <= 64 && m <= 64)
+        return CALL(draw_patch)(side, points, points_len, n, m, mark, choice, grid, grid_len, new_cells);
+    if (points_len != 48)
+        return -51;
+    if (choice > UNDER)
+        return -55;
+    return -order_off_strip(side, grid_len, mark, is_count_out(256, n) || is_count_out(256, m));
 }
 
 /* Flips. */

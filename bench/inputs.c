@@ -9,6 +9,7 @@
 #include "gaps.h"
 
 uint8_t curves[CURVE_SETS][CURVES][12], patches[2][PATCHES][48], sheets[2][SHEETS][SHEET_BYTES];
+uint8_t strip_curves[CURVES][12], strip_patches[PATCHES][48];
 uint8_t full_cubes[CUBES][CELLS], polygons[POLYGON_SETS][POLYGONS][12];
 float (*channels[3])[6];
 size_t swatches;
@@ -85,22 +86,22 @@ static int between(int least, int most)
     return least + (int)random_below((uint32_t)(most - least + 1));
 }
 
-static uint8_t clamped(int v)
+static uint8_t clamped(int side, int v)
 {
-    return (uint8_t)(v < 0 ? 0 : v >= SIDE ? SIDE - 1 : v);
+    return (uint8_t)(v < 0 ? 0 : v >= side ? side - 1 : v);
 }
 
 /* A plane through the middle of the cube, with each point moved a little. Neighbouring points differ by at most most
    on each axis, so that 3 × most steps are enough. */
-static void random_patch(uint8_t points[48], int most)
+static void random_patch(uint8_t points[48], int side, int most)
 {
     int bend = most / 4, slope = most - 2 * bend;
     for (int a = 0; a < 3; a++) {
         int t = between(-slope, slope), u = between(-slope, slope);
-        int origin = SIDE / 2 - 3 * (t + u) / 2;
+        int origin = side / 2 - 3 * (t + u) / 2;
         for (int i = 0; i < 4; i++)
             for (int j = 0; j < 4; j++)
-                points[3 * (4 * i + j) + a] = clamped(origin + t * i + u * j + between(-bend, bend));
+                points[3 * (4 * i + j) + a] = clamped(side, origin + t * i + u * j + between(-bend, bend));
     }
 }
 
@@ -165,8 +166,8 @@ void make_inputs(size_t swatch_count)
     for (int k = 0; k < CURVES; k++)
         random_points(curves[BOXED][k], 4, SIDE, 8 + random_below(SIDE - 7));
     for (int k = 0; k < PATCHES; k++) {
-        random_patch(patches[0][k], 64 / 3);
-        random_patch(patches[1][k], 60);
+        random_patch(patches[0][k], SIDE, 64 / 3);
+        random_patch(patches[1][k], SIDE, 60);
     }
     for (int set = 0; set < 2; set++) {
         make_channels(set);
@@ -182,5 +183,9 @@ void make_inputs(size_t swatch_count)
         crossing_points(curves[CROSSING][k], 1);
         crossing_points(curves[STEEP][k], 0);
     }
+    for (int k = 0; k < CURVES; k++)
+        random_points(strip_curves[k], 4, STRIP_SIDE, 2 + random_below(STRIP_SIDE - 1));
+    for (int k = 0; k < PATCHES; k++)
+        random_patch(strip_patches[k], STRIP_SIDE, 8);
     make_polygons();
 }

@@ -8,7 +8,10 @@
 enum {
     SIDE = 64,
     CELLS = SIDE * SIDE * SIDE,
+    STRIP_SIDE = 17,
+    STRIP_CELLS = STRIP_SIDE * STRIP_SIDE * STRIP_SIDE,
     STEPS = 512,
+    STRIP_STEPS = 64,
     CURVES = 512,
     PATCHES = 32,
     SHEET_SIDE = 40,
@@ -58,6 +61,10 @@ extern const struct polygon_set {
 
 /* Accepted patches, side 64: set 0 with 64 × 64 steps, set 1 with 256 × 256. */
 extern uint8_t patches[2][PATCHES][48];
+
+/* Curves and patches for the strip, side 17: curves in boxes 2 to 17 wide, and bent patches. With 64 steps all are accepted,
+   and for each curve the step test quits. */
+extern uint8_t strip_curves[CURVES][12], strip_patches[PATCHES][48];
 
 /* Six numbers for each pair of swatches. Of colours and greys, channels: set 0 bright, uniform in 0 to 1; set 1 dark, nine
    of ten below 1/128. Of hues, hue, saturation and value: set 2, uniform. */

@@ -57,6 +57,20 @@ static inline int order_of_drawing(uint32_t side, const uint8_t *points, size_t 
     return order_of_list(side, points, len, count_out, false);
 }
 
+/* 11, 23, 21, 12, 13, 24 of a drawing on the strip, with a side above 17 or a step count above 64. */
+static inline int order_off_strip(uint32_t side, size_t grid_len, uint8_t mark, bool count_out)
+{
+    if (!is_side(side))
+        return 11;
+    if (side > 17)
+        return 23;
+    if (grid_len != (size_t)side * side * side)
+        return 21;
+    if (mark == 0)
+        return 12;
+    return count_out ? 13 : 24;
+}
+
 /* 11, 21, 22 of a text about a cube; 0 if none applies. */
 static inline int order_of_text(uint32_t side, size_t cube_len, bool text_short)
 {

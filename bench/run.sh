@@ -1,8 +1,8 @@
 #!/usr/bin/env bash
 # Measures the library beside C, from the repository's root:
 #
-#     bash bench/run.sh            checks, cells that (c) gets wrong, table of times
-#     bash bench/run.sh --count    instructions of library and (a), by callgrind
+#     bash bench/run.sh            checks, cells that (c) gets wrong, table of times, strip beside main path
+#     bash bench/run.sh --count    instructions of library and (a), and of strip and main path, by callgrind
 #     bash bench/run.sh --laws     what the search for a step count does, and the polygon for which it does most
 #
 # CC and CFLAGS choose the C compiler, LIB another archive than the one that is built here. BEFORE is an archive of
@@ -47,16 +47,23 @@ describe() {
     echo "Toolchain of the library: $(rt version)"
 }
 
-# Seven rounds at each place in turn, three times over.
+# Seven rounds at each place in turn, three times over, and of strip and main path 160 shorter ones.
 measure() {
     $out/bench.0 check
     : >$out/times
+    : >$out/strip
     for _ in 1 2 3; do
-        # shellcheck disable=SC2086
-        for p in $places; do $out/bench.$p times "$p" 7 $rows >>$out/times; done
+        for p in $places; do
+            # shellcheck disable=SC2086
+            $out/bench.$p times "$p" 7 $rows >>$out/times
+            # shellcheck disable=SC2086
+            $out/bench.$p strip "$p" 160 $rows >>$out/strip
+        done
     done
     echo
     $out/bench.0 table <$out/times
+    echo
+    $out/bench.0 strip_table <$out/strip
 }
 
 # Instructions that a box executes in the functions of a row, callees included.
@@ -66,6 +73,28 @@ collected() { # PREFIX BOX ROW FUNCTIONS
     # shellcheck disable=SC2086
     valgrind --tool=callgrind --callgrind-out-file=/dev/null $words $out/bench.0 count "$3" "$2" 2>&1 >$out/units |
         sed -n 's/.*Collected : //p'
+}
+
+# The same of the strip and of the main path on the same input: boxes 5 and 6 are library and BEFORE with the one in the
+# other's place.
+count_strip() {
+    # shellcheck disable=SC2086
+    if [ -z "$($out/bench.0 strip_rows $rows)" ]; then return; fi
+    echo
+    echo "| instructions a call | strip | main path | more | ratio |${BEFORE:+ before | more | ratio |}"
+    echo "|---|---|---|---|---|${BEFORE:+---|---|---|}"
+    # shellcheck disable=SC2086
+    $out/bench.0 strip_rows $rows | while IFS='|' read -r row name unit functions; do
+        strip=$(collected gidzkhalu 0 "$row" "$functions")
+        paths=$(collected gidzkhalu 5 "$row" "${functions/strip_/}")
+        if [ -n "${BEFORE:-}" ]; then paths="$paths $(collected before 6 "$row" "${functions/strip_/}")"; fi
+        awk -v name="$name" -v strip="$strip" -v paths="$paths" -v units="$(cat $out/units)" 'BEGIN {
+            printf "| %s | %.1f |", name, strip / units
+            n = split(paths, path, " ")
+            for (k = 1; k <= n; k++)
+                printf " %.1f | %.1f | %.4f |", path[k] / units, (strip - path[k]) / units, strip / path[k]
+            printf "\n" }'
+    done
 }
 
 count() {
@@ -88,6 +117,7 @@ count() {
                     printf " none | |"
             printf "\n" }'
     done
+    count_strip
 }
 
 # Counts by a program of its own, without the library.
