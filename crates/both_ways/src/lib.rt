@@ -9,7 +9,7 @@ ghost use Rattle.both_ways.specs.Bytes.{SameFrom};
 use scan::answer::ListAnswer;
 
 // What a call answers: a letter that says whether it is accepted, a number, and the number of new cells.
-#[derive(Drop)]
+#[derive(Clone, Copy)]
 pub struct Said {
     pub letter: u8,
     pub number: u32,

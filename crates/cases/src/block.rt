@@ -4,7 +4,7 @@ ghost use Rattle.reading.specs.Read.{ReadInto};
 ghost use Rattle.cases.specs.Block.{is_more};
 
 // Whether there may be more input, it has ended, or reading or writing failed.
-#[derive(Drop)]
+#[derive(Clone, Copy)]
 pub enum Progress {
     More,
     Ended,
@@ -12,7 +12,7 @@ pub enum Progress {
 }
 
 // How many records were read, and how it goes on after them.
-#[derive(Drop)]
+#[derive(Clone, Copy)]
 pub struct Block {
     pub count: usize,
     pub then: Progress,

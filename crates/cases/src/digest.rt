@@ -7,7 +7,7 @@ use crate::bytes::wide;
 // How many bytes are not 0, and the remainders, by two primes, of the number whose digits of base 256 are a leading
 // number and then the bytes. The primes are below 10^8, so that eight digits hold a remainder, and the powers of 256 up
 // to the longest listing's and the longest grid's differ by each of them.
-#[derive(Drop)]
+#[derive(Clone, Copy)]
 pub struct Digest {
     pub marked: u64,
     pub first: u64,

@@ -6,7 +6,7 @@ use crate::digest::{begun, eight, extended};
 use crate::record::number;
 
 // An answer's letter and numbers, which are written in hexadecimal or in decimal digits.
-#[derive(Drop)]
+#[derive(Clone, Copy)]
 pub struct Answer {
     pub letter: u8,
     pub hexadecimal: bool,

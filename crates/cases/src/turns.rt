@@ -6,7 +6,7 @@ use crate::block::{Progress, goes_on};
 
 // A loop has to end, and nothing says that the input does: the turns that are left count down from a number that no run
 // uses up.
-#[derive(Drop)]
+#[derive(Clone, Copy)]
 pub struct Turns {
     pub left: u64,
 }

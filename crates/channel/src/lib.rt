@@ -7,7 +7,7 @@ ghost use Rattle.channel.specs.Coordinate.{coordinate_of};
 ghost use Rattle.channel.specs.HalfWay.{IsHalfWayChannel};
 
 // Three f32 channels.
-#[derive(Drop)]
+#[derive(Clone, Copy)]
 pub struct Rgb {
     pub red: f32,
     pub green: f32,

@@ -14,7 +14,7 @@ use decide::Verdict;
 use scan::answer::{DrawAnswer, Drawn};
 
 // What the count alone answers: the count, or the refusal's number.
-#[derive(Drop)]
+#[derive(Clone, Copy)]
 pub enum CountAnswer {
     Steps(u32),
     Refused(u32),

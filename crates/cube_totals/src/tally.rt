@@ -9,7 +9,7 @@ ghost use Rattle.cube_totals.specs.Table.{Table, Below, plus, added, added_row, 
 ghost use Rattle.cube_totals.specs.Next.{Next};
 
 // What a mark holds: the count of its cells, and the sums of their coordinates.
-#[derive(Drop)]
+#[derive(Clone, Copy)]
 pub(crate) struct Total {
     pub count: u32,
     pub x: u32,
@@ -18,7 +18,7 @@ pub(crate) struct Total {
 }
 
 // A row of cells along x.
-#[derive(Drop)]
+#[derive(Clone, Copy)]
 struct Row {
     y: u64,
     z: u64,

@@ -8,7 +8,7 @@ use crate::differences::{Cubic, heads};
 
 // `at` is the coordinate times the stride: 1, S and S × S are the strides of a grid, so that the three sum up to the
 // byte's place, and 1 is that of a listing.
-#[derive(Drop)]
+#[derive(Clone, Copy)]
 pub struct Axis {
     pub at: i64,
     pub cubic: Cubic,

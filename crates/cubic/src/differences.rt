@@ -6,7 +6,7 @@ ghost use Rattle.cubic.specs.Room.{Room, Startable};
 
 use crate::basis::{BASIS, coefficient};
 
-#[derive(Drop)]
+#[derive(Clone, Copy)]
 pub struct Cubic {
     pub value: i64,
     pub d1: i64,

@@ -21,7 +21,7 @@ use steps::StepTest;
 
 // A curve record: the mark and the choice, over or under, the step count, and x, y, z of points 0 to 3. The points stand
 // last: so the compiled test of the coordinates has no load that spans two of the stores that made the record.
-#[derive(Drop)]
+#[derive(Clone, Copy)]
 pub struct Curve {
     pub mark: u8,
     pub choice: Choice,
@@ -31,7 +31,7 @@ pub struct Curve {
 
 // What a check answers: accepted after a walk along all steps, or without one, since the step test quit; or the refusal's
 // number.
-#[derive(Drop)]
+#[derive(Clone, Copy)]
 pub enum CheckAnswer {
     Walked,
     Quit,

@@ -11,7 +11,7 @@ use cubic::differences::Cubic;
 
 // What the test tells: no step is too long, after a walk along all steps or without one, or a walk found a step that is.
 // In the order of `CheckAnswer`, so that a compiled check hands it on as it is.
-#[derive(Drop)]
+#[derive(Clone, Copy)]
 pub enum StepTest {
     Walked,
     Quit,

@@ -62,7 +62,7 @@ first_of_refused (r ∷ rs) k e =
     ⊎_elim (λ p. here p.0 p.1) (λ p. there p.0 (first_of_refused rs k p.1))
     (step_refused r (first_that rs) k e)
 
-refused_of_first : {rules : List Rule} {k : ℕ} → FirstApplies k rules → first_that rules ≡ refused k
+refused_of_first : {k : ℕ} {rules : List Rule} → FirstApplies k rules → first_that rules ≡ refused k
 unfolding first_that
 refused_of_first (here a e) = rw (a, e)
 refused_of_first (there a f) = rw a (refused_of_first f)

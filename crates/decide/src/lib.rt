@@ -1,7 +1,7 @@
 // Tests that compute, and what they decide of a call: definitions in specs/, their meaning in words in proofs/.
 
 // What a check finds: no number applies, or the first that does.
-#[derive(Drop)]
+#[derive(Clone, Copy)]
 pub enum Verdict {
     Accepted,
     Refused(u32),

@@ -1,7 +1,7 @@
 // The colour cube, the objects drawn into it, and their refusals: definitions in specs/, laws in proofs/.
 
 // Whether a drawing writes its mark over the marks that it meets, or goes under them.
-#[derive(Drop)]
+#[derive(Clone, Copy)]
 pub enum Choice {
     Over,
     Under,

@@ -8,7 +8,7 @@ ghost use Rattle.hsv.specs.Channels.{q_of, r_of, rgb, hsv_channels};
 use channel::Rgb;
 
 // A hue from 0 to below 6, a saturation and a value from 0 to 1.
-#[derive(Drop)]
+#[derive(Clone, Copy)]
 pub struct Hsv {
     pub hue: f32,
     pub saturation: f32,

@@ -5,7 +5,7 @@ use mathlib.Core.List.{List, ◌∷◌}
 use Prim.Native.Nat.{ℕ, zero, suc, ◌<◌}
 use native.Mathlib.Omega.{arith}
 use lib.ListN.{length, get_or, set}
-use Rattle.bezier.specs.Exact.{Sample, index}
+use Rattle.bezier.specs.Exact.{Sample, no_index, index}
 use Rattle.neighbours.specs.Steps.{Neighbours, first, later}
 
 -- The sample one further along parameter k.
@@ -25,7 +25,9 @@ named (later {n} {i} h b) =
     )
 
 along : {ns is : List ℕ} (k : ℕ) → k < length ns → Sample ns is → Sample ns (next k is) → Neighbours ns is (next k is)
+along zero l no_index _ = elim l [ ]
 along zero l (index {n} {i} h b) (index g c) = first {n = n} {i = i} (omega arith) b
+along (suc k) l no_index _ = elim l [ ]
 along (suc k) l (index {n} {i} h b) (index g c) = later {n = n} {i = i} (omega arith) (along k (omega arith) b c)
 
 -- Two samples are neighbours exactly if, at one parameter, whichever it is, the second has one more, and at every

@@ -19,7 +19,7 @@ use scan::answer::{DrawAnswer, Drawn};
 
 // A patch record: x, y, z of points 0 to 15, the step counts n along t and m along u, the mark and the choice, over or
 // under.
-#[derive(Drop)]
+#[derive(Clone, Copy)]
 pub struct Patch {
     pub points: [u8; 48],
     pub n: u32,

@@ -18,7 +18,7 @@ use surface::Surface;
 
 // One axis: the walk along u through t = 0, whose remainder is carried into each row, beside cubics along u of the
 // differences along t.
-#[derive(Drop)]
+#[derive(Clone, Copy)]
 pub struct Line {
     pub walk: Axis,
     pub d1: Cubic,
@@ -27,7 +27,7 @@ pub struct Line {
 }
 
 // Three axes.
-#[derive(Drop)]
+#[derive(Clone, Copy)]
 pub struct Lines {
     pub x: Line,
     pub y: Line,

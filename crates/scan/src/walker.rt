@@ -5,14 +5,14 @@ ghost use Rattle.scan.specs.Walker.{StepsAll, step_all, HasPlace, place_of};
 use cubic::axis::Axis;
 
 // What a coordinate weighs in a byte's place: 1, S and S × S in a grid, and 1 on every axis in a listing.
-#[derive(Drop)]
+#[derive(Clone, Copy)]
 pub struct Strides {
     pub x: i64,
     pub y: i64,
     pub z: i64,
 }
 
-#[derive(Drop)]
+#[derive(Clone, Copy)]
 pub struct Walker {
     pub x: Axis,
     pub y: Axis,

@@ -13,21 +13,21 @@ use decide::Verdict;
 use sheet_lines::line::{is_line, number_at, read_curve, refusal_of};
 
 // The side of a sheet's cube and the number of its curve lines.
-#[derive(Drop)]
+#[derive(Clone, Copy)]
 pub(crate) struct Size {
     pub side: u32,
     pub curves: u32,
 }
 
 // What the lines of a sheet are found to be.
-#[derive(Drop)]
+#[derive(Clone, Copy)]
 pub(crate) enum Judgement {
     Good(Size),
     Refused(Refusal),
 }
 
 // A good line 1 has the side.
-#[derive(Drop)]
+#[derive(Clone, Copy)]
 enum Side {
     Good(u32),
     Refused(u32),

@@ -11,7 +11,7 @@ ghost use Rattle.sheet_cube.specs.Answer.{DrawsSheet};
 use crate::judge::Judgement;
 
 // An accepted sheet: the side of its cube, the number of its curve lines, and that of the cells that they marked.
-#[derive(Drop)]
+#[derive(Clone, Copy)]
 pub struct Sheet {
     pub side: u32,
     pub curves: u32,
@@ -19,14 +19,14 @@ pub struct Sheet {
 }
 
 // A refusal's number and the line that is refused.
-#[derive(Drop)]
+#[derive(Clone, Copy)]
 pub struct Refusal {
     pub number: u32,
     pub line: u32,
 }
 
 // What a sheet call answers.
-#[derive(Drop)]
+#[derive(Clone, Copy)]
 pub enum Answer {
     Drawn(Sheet),
     Refused(Refusal),

@@ -39,7 +39,7 @@ pub fn is_line(rest: &[u8], fields: usize) -> bool
 
 // A curve line as read: its curve, if every field is good, the mark from 1 to 255 and every coordinate a byte; and else
 // a record of zeros.
-#[derive(Drop)]
+#[derive(Clone, Copy)]
 pub struct Read {
     pub curve: Curve,
     pub fits: bool,

@@ -15,7 +15,7 @@ use sheet_text::Written;
 use sheet_text::text::{lesser, put_bytes};
 
 // The first plane that is not listed yet, and the number of bytes written.
-#[derive(Drop)]
+#[derive(Clone, Copy)]
 pub struct Planes {
     pub next: usize,
     pub bytes: usize,

@@ -10,14 +10,14 @@ pub use print::print_sheet;
 use sheet_cube::Answer;
 
 // What a program prints of a sheet's cube.
-#[derive(Drop)]
+#[derive(Clone, Copy)]
 pub enum Report {
     Listing,
     Totals,
 }
 
 // The side of the cube that is drawn, or the number of bytes of the refusal line.
-#[derive(Drop)]
+#[derive(Clone, Copy)]
 pub enum Drawing {
     Cube(u32),
     Line(usize),

@@ -12,7 +12,7 @@ ghost use Rattle.sheet_text.specs.Writes.{Writes};
 use crate::text::{put_bytes, put_columns};
 
 // The number of bytes written, or the refusal's number.
-#[derive(Drop)]
+#[derive(Clone, Copy)]
 pub enum Written {
     Bytes(usize),
     Refused(u32),

@@ -19,7 +19,7 @@ use scan::answer::{DrawAnswer, Drawn};
 
 // A solid record: x, y, z of points 0 to 63, the step counts n along t, m along u and l along v, the mark and the choice, over
 // or under.
-#[derive(Drop)]
+#[derive(Clone, Copy)]
 pub struct Solid {
     pub points: [u8; 192],
     pub n: u32,

@@ -19,7 +19,7 @@ use surface::Surface;
 
 // One axis: the walk along v through t = u = 0, whose remainder is carried into each slice, with cubics along v of the
 // differences along u beside it; and surfaces over u and v of the differences along t.
-#[derive(Drop)]
+#[derive(Clone, Copy)]
 pub(crate) struct Block {
     pub value: Line,
     pub d1: Surface,
@@ -28,7 +28,7 @@ pub(crate) struct Block {
 }
 
 // Three axes.
-#[derive(Drop)]
+#[derive(Clone, Copy)]
 pub(crate) struct Blocks {
     pub x: Block,
     pub y: Block,

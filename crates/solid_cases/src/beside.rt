@@ -93,7 +93,7 @@ fn one_of(parameter: u32, t: u32, u: u32, v: u32) -> u32 {
 }
 
 // Which of a solid's points, in turn: 0 1 2 .., 0 4 8 .., 0 16 32 .., or 0 1 2 3 16 17 ...
-#[derive(Drop)]
+#[derive(Clone, Copy)]
 enum Places {
     First,
     Fourths,

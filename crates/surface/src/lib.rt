@@ -12,7 +12,7 @@ ghost use Rattle.surface.specs.Surface.{Searchable, some_long, StepsSearchable, 
 use cubic::differences::Cubic;
 
 // Cubics along u: of the value at t = 0, and of its three differences along t.
-#[derive(Drop)]
+#[derive(Clone, Copy)]
 pub struct Surface {
     pub value: Cubic,
     pub d1: Cubic,

@@ -7,7 +7,7 @@ ghost use Rattle.surface.specs.Volume.{VolumeSearchable, long_volume_steps};
 use crate::Surface;
 
 // Surfaces over u and v: of the value at t = 0, and of its three differences along t. They hold sixteen cubics along v.
-#[derive(Drop)]
+#[derive(Clone, Copy)]
 pub struct Volume {
     pub value: Surface,
     pub d1: Surface,

@@ -15,7 +15,7 @@ use decide::Verdict;
 use hsv::Hsv;
 
 // Three channels, a grey that stands for three equal ones, or hue, saturation and value.
-#[derive(Drop)]
+#[derive(Clone, Copy)]
 pub enum Swatch {
     Color(Rgb),
     Grey(f32),
@@ -23,7 +23,7 @@ pub enum Swatch {
 }
 
 // A cell of the colour cube.
-#[derive(Drop)]
+#[derive(Clone, Copy)]
 pub struct Cell {
     pub x: u8,
     pub y: u8,
@@ -31,14 +31,14 @@ pub struct Cell {
 }
 
 // The refusal's number, or the swatch's cell.
-#[derive(Drop)]
+#[derive(Clone, Copy)]
 pub enum CellAnswer {
     Refused(u32),
     Found(Cell),
 }
 
 // The refusal's number, or the half-way swatch, always of three channels.
-#[derive(Drop)]
+#[derive(Clone, Copy)]
 pub enum HalfWayAnswer {
     Refused(u32),
     Mixed(Rgb),

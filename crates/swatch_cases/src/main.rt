@@ -23,7 +23,7 @@ use hsv::Hsv;
 use swatch::{CellAnswer, HalfWayAnswer, Swatch};
 
 // An answer's letter and numbers, which are written in hexadecimal or in decimal digits.
-#[derive(Drop)]
+#[derive(Clone, Copy)]
 struct Answer {
     letter: u8,
     hexadecimal: bool,
