@@ -1,1 +1,2 @@
 // Exact values of Bezier objects: definitions in specs/, laws in proofs/.
+#![tactic(auto)]

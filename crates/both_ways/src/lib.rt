@@ -1,5 +1,7 @@
 // Whether two calls agree: with a record and with its flip, on the strip and on the main path, or with a solid and with a curve
 // or a patch. What is `pub` here is so for drawing_cases and solid_cases.
+#![tactic(auto)]
+
 pub mod calls;
 
 ghost use Rattle.std.specs.Prelude.{◌↔◌, ◌≡◌, ◌+◌, ◌≤◌, T, length};

@@ -2,6 +2,8 @@
 //
 // Cases and answers are records of text, so that they can be read and compared, and of one width in a program, so that
 // the record of a number is found without a search.
+#![tactic(auto)]
+
 pub mod answer;
 pub mod block;
 pub mod bytes;

@@ -1,5 +1,7 @@
 // Channels of a swatch, one by one: the refusals of each, its coordinate, and the value half-way to another.
 // No function is open to callers: what is `pub` is so for the crates above.
+#![tactic(auto)]
+
 ghost use Rattle.std.specs.Prelude.{◌≡◌, false, ◌≤◌, T};
 ghost use Rattle.decide.specs.Refusal.{first_that, refused};
 ghost use Rattle.channel.specs.Channel.{in_range, infinite_or_nan, channel_refusals};

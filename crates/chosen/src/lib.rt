@@ -1,5 +1,6 @@
 // Curves whose step count the box chooses: the smallest that the curve rule accepts. Open to callers: `choose_steps` and
 // `draw_chosen`.
+#![tactic(auto)]
 
 mod search;
 

@@ -1,1 +1,2 @@
 // The claims about the whole: statements in specs/, proofs in proofs/, no functions.
+#![tactic(auto)]

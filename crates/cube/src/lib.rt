@@ -1,1 +1,2 @@
 // The colour cube: definitions in specs/, laws in proofs/.
+#![tactic(auto)]

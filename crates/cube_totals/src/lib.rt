@@ -1,5 +1,7 @@
 // The key totals of a cube: for every mark that some cell holds the count of its cells and the sums of their coordinates.
 // Open to callers: `write_totals`. `put_totals` is `pub` for the crates above.
+#![tactic(auto)]
+
 mod tally;
 
 ghost use Rattle.std.specs.Prelude.{◌≡◌, ◌∷◌, ◌+◌, ◌≤◌, ◌<◌, length};

@@ -1,5 +1,6 @@
 // Curves: checked, listed and drawn by Kaufman's FAST_CURVE. Open to callers: `check_curve`, `list_curve` and
 // `draw_curve`. Whatever else is `pub` is so for the crates above.
+#![tactic(auto)]
 
 pub mod samples;
 pub mod steps;

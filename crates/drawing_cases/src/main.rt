@@ -44,6 +44,8 @@
 // added to the mark for under.
 //
 // A case has 22 numbers, hence 199 bytes, and an answer five, hence 47 bytes.
+#![tactic(auto)]
+
 mod beside;
 mod calls;
 mod flips;

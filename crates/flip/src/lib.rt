@@ -1,5 +1,7 @@
 // The flips of curve and patch records. Open to callers: `flip_curve` and `flip_patch`. Whatever else is `pub` is so for the
 // crates above.
+#![tactic(auto)]
+
 ghost use Rattle.std.specs.Prelude.{◌≡◌, false, ◌*◌, length};
 ghost use Rattle.decide.specs.Some.{some_of};
 ghost use Rattle.flip.specs.Flip.{no_point, points_at, reversed, exchanged, flipped_curve, flipped_patch};

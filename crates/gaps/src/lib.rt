@@ -1,4 +1,6 @@
 // Gaps between consecutive points of a curve, and where the step test quits.
+#![tactic(auto)]
+
 ghost use Rattle.std.specs.Prelude.{◌≡◌, ◌*◌, ◌<◌, max, length};
 ghost use Rattle.cube.specs.Cube.{Axis};
 ghost use Rattle.drawing.specs.Object.{offset};

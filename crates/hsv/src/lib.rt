@@ -1,5 +1,7 @@
 // Hue, saturation and value, as a colour desk speaks: the refusals of a hue, and the channels that the three stand for.
 // No function is open to callers: what is `pub` is so for the crates above.
+#![tactic(auto)]
+
 ghost use Rattle.std.specs.Prelude.{◌≡◌, false, T};
 ghost use Rattle.decide.specs.Refusal.{first_that, refused};
 ghost use Rattle.hsv.specs.Hue.{hue_in_range, hue_refusals};

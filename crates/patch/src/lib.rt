@@ -1,5 +1,7 @@
 // Patches: checked and drawn by Kaufman's FAST_SURFACE. Open to callers: `check_patch` and `draw_patch`, the only functions
 // that are `pub`.
+#![tactic(auto)]
+
 mod samples;
 mod start;
 mod steps;

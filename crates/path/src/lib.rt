@@ -1,5 +1,6 @@
 // Face-to-face curves, 6-connected paths through the samples' cells: drawn and listed by Kaufman's FAST_CURVE, with a write
 // after each axis's move. Open to callers: `draw_path` and `list_path`.
+#![tactic(auto)]
 
 mod list;
 mod mark;

@@ -6,6 +6,8 @@
 //
 // and then as many bytes as the length says, at most 16384: the sheet. Report 0 is the listing, as stroke_sheet prints
 // it, and report 1 the totals, as key_totals does. A heading has 2 numbers, hence 19 bytes.
+#![tactic(auto)]
+
 ghost use Rattle.std.specs.Prelude.{◌≡◌, length};
 
 use cases::block::Progress;

@@ -1,5 +1,7 @@
 // Reading into a lent buffer, with the end of the input told from a failed read. No function is open to callers: `fill`
 // is `pub` for the programs.
+#![tactic(auto)]
+
 ghost use Rattle.std.specs.Prelude.{◌≡◌, ◌≤◌, length};
 ghost use Rattle.reading.specs.Read.{ReadAt, input_of, Filled};
 

@@ -1,5 +1,7 @@
 // Rows of samples, what a patch and a slice of a solid share: their start on one axis, the walk from row to row, and the
 // marking of their cells. No function is open to callers: what is `pub` is so for the crates above.
+#![tactic(auto)]
+
 ghost use Rattle.std.specs.Prelude.{◌≡◌, map, ◌+◌, ◌≤◌, length};
 ghost use Rattle.drawing.specs.Drawing.{marked};
 ghost use Rattle.drawing.specs.NewCells.{unmarked_cells};

@@ -1,1 +1,2 @@
 // The stroke sheet: definitions and their laws, no functions.
+#![tactic(auto)]

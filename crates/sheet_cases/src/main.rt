@@ -16,6 +16,8 @@
 // not 0, in parts of so many places.
 //
 // A heading has 5 numbers, hence 46 bytes, and an answer 9, hence 83 bytes.
+#![tactic(auto)]
+
 mod printed;
 
 ghost use Rattle.std.specs.Prelude.{◌≡◌, length};

@@ -1,5 +1,6 @@
 // Stroke sheets: judged line by line, then drawn. Open to callers: `draw_sheet`. Whatever else is `pub` is so for the
 // crates above.
+#![tactic(auto)]
 
 mod draw;
 mod judge;

@@ -1,5 +1,7 @@
 // The listing of a colour cube as text, in parts. Open to callers: `list_part`. Whatever else is `pub` is so for the
 // crates above.
+#![tactic(auto)]
+
 mod cells;
 
 ghost use Rattle.std.specs.Prelude.{◌≡◌, ◌+◌, ◌*◌, ◌-◌, ◌≤◌, ◌<◌, min, length};

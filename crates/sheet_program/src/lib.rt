@@ -1,5 +1,7 @@
 // What the sheet programs share: a sheet is read from standard input and drawn, and what is asked of its cube, or the
 // line that says why it is refused, is printed. No function is open to callers: what is `pub` is so for the programs.
+#![tactic(auto)]
+
 mod print;
 
 ghost use Rattle.std.specs.Prelude.{◌≡◌, ◌≤◌, length};

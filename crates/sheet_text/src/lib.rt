@@ -1,5 +1,7 @@
 // Text written into lent bytes: what the calls that write it answer, and the refusal line. Open to callers:
 // `refusal_line`. Whatever else is `pub` is so for the crates above.
+#![tactic(auto)]
+
 pub mod text;
 
 ghost use Rattle.std.specs.Prelude.{◌≡◌, length};

@@ -1,5 +1,7 @@
 // Solids, the tricubic volumes of document 02's A.13: checked and drawn slice by slice. Open to callers: `check_solid` and
 // `draw_solid`, the only functions that are `pub`.
+#![tactic(auto)]
+
 mod slices;
 mod start;
 mod steps;

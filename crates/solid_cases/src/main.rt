@@ -31,6 +31,8 @@
 // afterwards (`cases::lent::holding`); C is lent none.
 //
 // A case has 72 numbers, hence 649 bytes, and an answer five, hence 47 bytes.
+#![tactic(auto)]
+
 mod beside;
 mod calls;
 

@@ -1,5 +1,6 @@
 // The preview strip: curves and patches in a cube of side 2 to 17 with at most 64 steps along each parameter, drawn by the main
 // path. Open to callers: `draw_strip_curve` and `draw_strip_patch`. Whatever else is `pub` is so for the crates above.
+#![tactic(auto)]
 
 ghost use Rattle.std.specs.Prelude.{◌≡◌, ◌||◌};
 ghost use Rattle.decide.specs.Verdict.{verdict_of};

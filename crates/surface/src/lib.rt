@@ -2,6 +2,8 @@
 // a surface along either parameter are a surface again, so one search finds the long steps along both. A volume over three
 // parameters is a surface at each index of the third. No function is open to callers: what is `pub` is so for the crates
 // above.
+#![tactic(auto)]
+
 pub mod volume;
 
 ghost use Rattle.std.specs.Prelude.{◌≡◌};

@@ -1,5 +1,7 @@
 // Swatches: colours given as f32 channels, or as hue, saturation and value, which become cells of the colour cube or are
 // mixed half-way. Open to callers: `to_cell` and `half_way`, the only functions that are `pub`.
+#![tactic(auto)]
+
 ghost use Rattle.std.specs.Prelude.{◌≡◌, false, ◌&&◌, ◌≤◌};
 ghost use Rattle.decide.specs.Refusal.{first_that, accepted, refused};
 ghost use Rattle.decide.specs.Verdict.{verdict_of};

@@ -12,6 +12,8 @@
 //     B                                     no such case
 //
 // A case has eight numbers, hence 73 bytes, and an answer three, hence 29 bytes.
+#![tactic(auto)]
+
 ghost use Rattle.std.specs.Prelude.{◌≡◌, ◌*◌, ◌≤◌, length};
 ghost use Rattle.std.specs.Float.{binary32};
 ghost use Rattle.std.specs.Float.Ieee.{of_bits, to_bits};

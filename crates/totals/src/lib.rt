@@ -1,1 +1,2 @@
 // Key totals: definitions and laws, no functions.
+#![tactic(auto)]

@@ -1,0 +1,30 @@
+-- `agree` meets its contract: in each arm the two answers are known, and `Agree` says what is left to compare.
+use borrow.Author.Rules.{rules}
+use Rattle.decide.proofs.Truth.{equal}
+use Rattle.both_ways.proofs.agree.Goals as goal
+
+pub returns-then-n-m : goal.returns-then-n-m
+returns-then-n-m c =
+    let one = c.one-1.given in
+    let other = c.other-1.given in
+    let r = c.is_reversed.ensures in
+    rw (one.1, other.1) (λ t. (c.if-n-m.true, r.0 t), λ a. r.1 a.1)
+
+pub returns-else-n-m : goal.returns-else-n-m
+returns-else-n-m c =
+    let one = c.one-1.given in
+    let other = c.other-1.given in
+    let e = equal one.0.0 other.0.0 in
+    rw (one.1, other.1) (λ t. absurd (c.if-n-m.false (e.0 t)), λ a. absurd (c.if-n-m.false a.0))
+
+pub returns-in-Refused-other : goal.returns-in-Refused-other
+returns-in-Refused-other c = rw (c.one-1.given.1, c.enum_told-1.given.1) (λ t. t, λ a. a)
+
+pub returns-in-Accepted-other-2 : goal.returns-in-Accepted-other-2
+returns-in-Accepted-other-2 c = rw (c.one-in-Refused-one-1.given.1, c.enum_told-in-Accepted-other-2-1.given.1) (λ t. t, λ a. a)
+
+pub returns-in-Refused-other-2 : goal.returns-in-Refused-other-2
+returns-in-Refused-other-2 c =
+    let one = c.one-in-Refused-one-1.given in
+    let other = c.other-in-Refused-1.given in
+    rw (one.1, other.1) (equal _ _)

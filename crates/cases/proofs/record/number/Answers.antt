@@ -1,0 +1,37 @@
+-- `number` meets its contract and ends: after i digits the value is that of the first i, which i digits can hold.
+use Rattle.std.proofs.Common.{◌≡◌, ℕ, zero, suc, ◌+◌, ◌-◌, ◌*◌, ◌^◌, ◌<◌, ◌≤◌, List, get_or, sym, refl, ap, ◌∙◌, pow-suc, add-one, arith, rules}
+use native.Mathlib.Nat.{pow-le-pow_right}
+use Rattle.cases.specs.Record.{digit_of, value_at}
+use Rattle.cases.proofs.record.number.Reads as reads
+use Rattle.cases.proofs.record.digit.Reads as digit-reads
+use Rattle.cases.proofs.record.number.Invariants.{room, value_at_more}
+use Rattle.cases.proofs.record.number.Goals as goal
+
+pub loop-i-init : goal.loop-i-init
+unfolding value_at
+loop-i-init c = (search rules, search rules, refl, search rules)
+
+pub overflow_mul-value : goal.overflow_mul-value
+overflow_mul-value c =
+    let l = c.loop-i in
+    omega (arith, room l.value l.i (omega arith) l.invariant.3)
+
+pub overflow_add-value : goal.overflow_add-value
+overflow_add-value c =
+    let l = c.loop-i in
+    omega (arith, room l.value l.i (omega arith) l.invariant.3)
+
+pub loop-i-preserved : goal.loop-i-preserved
+loop-i-preserved c =
+    let l = c.loop-i in
+    let s = c in
+    let n = l.invariant.2 in
+    let d = c.digit.ensures.0 in
+    let p : 16 ^ (l.i + 1) ≡ 16 ^ l.i * 16 = rw (add-one, pow-suc) in
+    (refl, search rules, rw (value_at_more, ← n, ← d), omega arith)
+
+pub returns : goal.returns
+returns c =
+    let l = c.loop-i in
+    let e : l.i ≡ 8 = omega arith in
+    rw e at l.invariant.2

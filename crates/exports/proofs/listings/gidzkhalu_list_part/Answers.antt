@@ -1,0 +1,14 @@
+-- `gidzkhalu_list_part` meets its contract: the call, with its number signed.
+use borrow.Author.Rules.{rules}
+use Rattle.exports.proofs.Small.{reads}
+use Rattle.exports.proofs.Text.{part_small, small_written, written_signed}
+use Rattle.exports.proofs.listings.gidzkhalu_list_part.Goals as goal
+
+pub of_written-requires : goal.of_written-requires
+of_written-requires c =
+    let w = c.list_part in
+    small_written w.ensures (part_small _ _ _ _ _)
+
+pub returns : goal.returns
+returns c =
+    written_signed c.list_part.ensures (reads c.of_written.ensures)

@@ -1,0 +1,16 @@
+-- `of_verdict` meets its contract.
+use borrow.Author.Rules.{rules}
+use mathlib.Core.Path.{sym, ◌∙◌, ap}
+use lib.Dec.{lit<}
+use Rattle.decide.specs.Verdict.{verdict_of}
+use Rattle.exports.specs.Signed.{signed}
+use Rattle.exports.proofs.Small.{count_small, small_read}
+use Rattle.exports.proofs.signed.of_verdict.Goals as goal
+
+pub returns-in-Accepted : goal.returns-in-Accepted
+returns-in-Accepted c = (sym (ap (λ v. signed (verdict_of v) 0) c.enum_told-1.given.1), count_small (lit< tt))
+
+pub returns-in-Refused : goal.returns-in-Refused
+returns-in-Refused c =
+    let k = c.verdict-1.given in
+    small_read (c.refused.ensures.0 ∙ sym (ap (λ v. signed (verdict_of v) 0) k.1)) c.refused.ensures.1

@@ -1,0 +1,18 @@
+-- `judge_sheet` meets its contract: line 1 is refused, or the curve lines decide.
+use borrow.Author.Rules.{rules}
+use mathlib.Core.Path.{sym, ap, subst}
+use Rattle.sheet_lines.specs.Read.{first_line}
+use Rattle.sheet_cube.specs.Lines.{found, SideOf}
+use Rattle.sheet_cube.proofs.Judged.{side_refused}
+use Rattle.sheet_cube.proofs.judge.judge_sheet.Goals as goal
+
+pub judge_curves-requires : goal.judge_curves-requires
+judge_curves-requires c =
+    let j = c in
+    subst (SideOf (first_line j.args.input.now)) c.side-1.given.1 j.judge_side.ensures
+
+pub returns-in-Refused : goal.returns-in-Refused
+returns-in-Refused c =
+    let j = c in
+    let input = j.args.input.now in
+    sym (ap found (side_refused input (subst (SideOf (first_line input)) c.number-1.given.1 j.judge_side.ensures)))

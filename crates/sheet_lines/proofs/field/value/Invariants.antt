@@ -1,0 +1,18 @@
+-- `value` meets its contract: the digits from byte i on, after what was read before them, stand for the whole number,
+-- which is below 100000.
+use borrow.Author.Rules.{rules}
+use mathlib.Core.Path.{◌≡◌, refl, sym, ◌∙◌}
+use mathlib.Core.Bool.{true}
+use mathlib.Core.List.{List}
+use Prim.Native.Nat.{ℕ, ◌+◌, ◌-◌, ◌*◌, ◌≤◌, ◌<◌}
+use native.Mathlib.Omega.{arith}
+use lib.ListN.{length, get_or, drop}
+use Rattle.sheet.specs.Field.{are_digits, decimal}
+use Rattle.sheet_lines.proofs.Fields.{next_digit, digit_read, read_end, read_before, few_below}
+use Rattle.sheet_lines.proofs.field.value.Given as goal
+
+abbrev pub invariant-loop-i : goal.invariant-loop-i
+invariant-loop-i l = (l.i ≤ length l.digits) × (decimal 0 l.digits ≡ decimal l.n (drop l.i l.digits)) × (are_digits (drop l.i l.digits) ≡ true)
+
+abbrev pub decreases-loop-i : goal.decreases-loop-i
+decreases-loop-i l = length l.digits - l.i

@@ -1,0 +1,6 @@
+-- `Blocks::slice` meets its contract: the slice on each axis.
+use borrow.Author.Rules.{rules}
+use Rattle.solid.proofs.slices.Blocks.slice.Goals as goal
+
+pub returns : goal.returns
+returns c = rw (c.slice.ensures, c.slice-2.ensures, c.slice-3.ensures)

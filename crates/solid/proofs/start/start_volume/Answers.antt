@@ -1,0 +1,58 @@
+-- `start_volume` meets its contract: the four faces, started along v.
+use borrow.Author.Rules.{rules}
+use mathlib.Core.Path.{◌≡◌, ◌∙◌, ap}
+use mathlib.Core.List.{List}
+use Prim.Native.Nat.{ℕ, ◌+◌, ◌*◌, ◌<◌}
+use native.Mathlib.Omega.{arith}
+use lib.IntN.{ℤ, pos}
+use Rattle.cubic.proofs.Fits.{read}
+use Rattle.surface.specs.declared.Surface.{Surface}
+use Rattle.surface.specs.declared.volume.Volume.{Volume}
+use Rattle.surface.specs.Surface.{surface_of}
+use Rattle.surface.specs.Volume.{volume_of, start_volume, StartsVolume}
+use Rattle.surface.proofs.Slices.{volume_start_of}
+use Rattle.scan.proofs.Natural.{answer_read}
+use Rattle.rows.specs.Face.{doubled_face}
+use Rattle.solid.specs.Machine.{InLimits, face_along, doubled_along}
+use Rattle.solid.proofs.Along.{face_is, faces_start}
+use Rattle.solid.proofs.start.start_volume.Goals as goal
+use Rattle.solid.proofs.start.start_volume.Goals.{After-count, Start}
+
+-- With the count and the four faces as the code holds them.
+module _ {points : List ℕ} {n m l : ℕ} (q : InLimits points n m l) {a : ℕ} (h : a < 3) {k : ℤ} {f0 f1 f2 f3 : Surface} (f : k ≡ pos l)
+    (e0 : f0 ≡ surface_of (doubled_face points n m 48 12 a) 0) (e1 : f1 ≡ surface_of (doubled_face points n m 48 12 (3 + a)) 0)
+    (e2 : f2 ≡ surface_of (doubled_face points n m 48 12 (6 + a)) 0)
+    (e3 : f3 ≡ surface_of (doubled_face points n m 48 12 (9 + a)) 0) where
+  face : {r : Surface} (p : ℕ) {at : ℕ} → r ≡ surface_of (doubled_face points n m 48 12 at) 0 → at ≡ 3 * p + a →
+      r ≡ surface_of (face_along points n m a p) 0
+  face p e z = e ∙ ap (λ P. surface_of P 0) (face_is points n m a p z)
+
+  faces : StartsVolume k f0 f1 f2 f3
+  faces =
+      rw (f, face 0 e0 (omega arith), face 1 e1 (omega arith), face 2 e2 (omega arith), face 3 e3 (omega arith)) (faces_start q h)
+
+  started : {r : Volume} → r ≡ start_volume k f0 f1 f2 f3 → r ≡ volume_of (doubled_along points n m l a) 0
+  started e =
+      rw (f, face 0 e0 (omega arith), face 1 e1 (omega arith), face 2 e2 (omega arith), face 3 e3 (omega arith)) at e ∙
+      volume_start_of (pos l) (face_along points n m a 0) (face_along points n m a 1) (face_along points n m a 2) (face_along points n m a 3)
+
+-- The count, as it is read back.
+module _ (c : After-count) where
+  abbrev s : Start
+  s = c.before
+
+  steps : read c.count.result ≡ pos s.args.l
+  steps = answer_read c.count.ensures (omega (arith, s.requires.in_limits.l_most))
+
+pub start-requires : goal.start-requires
+start-requires c =
+    faces (s c).requires.in_limits (s c).requires.a_bound (steps c)
+    c.start_surface-f0.ensures c.start_surface-f1.ensures
+    c.start_surface-f2.ensures c.start_surface-f3.ensures
+
+pub returns : goal.returns
+returns c =
+    let k = c in
+    started (s k).requires.in_limits (s k).requires.a_bound (steps k)
+    k.start_surface-f0.ensures k.start_surface-f1.ensures
+    k.start_surface-f2.ensures k.start_surface-f3.ensures c.start.ensures

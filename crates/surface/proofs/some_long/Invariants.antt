@@ -1,0 +1,47 @@
+-- `some_long` meets its contract: no value that was passed is beyond 2N, and the first that is ends the search.
+use borrow.Author.Count.{below_more}
+use mathlib.Core.Path.{◌≡◌, refl, sym, ◌∙◌, ap}
+use mathlib.Core.Bool.{Bool, false}
+use Prim.Native.Nat.{ℕ, ◌+◌, ◌-◌, ◌<◌}
+use native.Mathlib.Numerals.{add-one}
+use native.Mathlib.Omega.{arith}
+use lib.Dec.{lit<}
+use lib.IntN.{ℤ}
+use mir.Syntax.{w64}
+use mir.Val.{to_z}
+use mir.Facts.{to_z-of_z}
+use Rattle.cubic.specs.declared.differences.Cubic.{Cubic}
+use Rattle.cubic.specs.Differences.{next_of, nexts}
+use Rattle.cubic.specs.Axis.{long_of}
+use Rattle.cubic.specs.Room.{Room}
+use Rattle.cubic.proofs.Fits.{read, held}
+use Rattle.surface.specs.declared.Surface.{Surface}
+use Rattle.surface.specs.Surface.{row_of, next_surface, surface_at, cubic_at, value_at}
+use Rattle.surface.proofs.Search.{found, nowhere}
+use Rattle.surface.proofs.some_long.Given as goal
+
+-- At row j of the surface s: no value of a row before it is beyond 2N.
+pub record AtRow (s : Surface) (N : ℤ) (rows samples : ℕ) (found : Bool) (rest : Surface) (j : ℕ) : Type 0 where
+  pub not_found : found ≡ false
+  pub within : j < rows
+  pub rest_is : rest ≡ surface_at s j
+  pub passed : (b : ℕ) → b < j → (k : ℕ) → k < samples → long_of N (value_at s k b) ≡ false
+
+-- At sample i of a row: no value before it is beyond 2N.
+pub record AtSample (rest : Surface) (N : ℤ) (samples : ℕ) (found : Bool) (row : Cubic) (i : ℕ) : Type 0 where
+  pub not_found : found ≡ false
+  pub within : i < samples
+  pub row_is : row ≡ nexts i (row_of rest)
+  pub passed : (k : ℕ) → k < i → long_of N (nexts k (row_of rest)).value ≡ false
+
+abbrev pub invariant-loop-found : goal.invariant-loop-found
+invariant-loop-found l = AtSample l.rest l.scale l.samples l.found l.row l.i
+
+abbrev pub decreases-loop-found : goal.decreases-loop-found
+decreases-loop-found l = l.samples - l.i
+
+abbrev pub invariant-search : goal.invariant-search
+invariant-search l = AtRow l.initial.rest l.scale l.rows l.samples l.found l.rest l.j
+
+abbrev pub decreases-search : goal.decreases-search
+decreases-search l = l.rows - l.j

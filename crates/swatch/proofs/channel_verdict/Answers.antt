@@ -1,0 +1,17 @@
+-- `channel_verdict` meets its contract: an accepted channel has no refusal.
+use mathlib.Core.Path.{sym, ◌∙◌, subst}
+use borrow.Author.Rules.{rules}
+use lib.Dec.{T}
+use Rattle.channel.proofs.Range.{range_accepted}
+use Rattle.swatch.proofs.channel_verdict.Goals as goal
+
+pub returns-then-is_accepted : goal.returns-then-is_accepted
+returns-then-is_accepted c =
+    let e = sym c.if-is_accepted.true ∙ c.is_accepted.ensures in
+    sym (range_accepted c.args.v (subst T e tt))
+
+pub returns : goal.returns
+returns c = sym c.number.ensures
+
+pub number-requires : goal.number-requires
+number-requires c = sym c.is_accepted.ensures ∙ c.if-is_accepted.false

@@ -1,0 +1,67 @@
+-- `swatch_cell` meets its contract: a colour has its channels' cell, a grey one coordinate on the three axes, and a hue the
+-- cell of the channels that it stands for.
+use mathlib.Core.Path.{sym, subst}
+use borrow.Author.Rules.{rules}
+use Rattle.swatch.specs.Swatch.{channels_of}
+use Rattle.hsv.specs.Hue.{HsvInRange}
+use Rattle.hsv.proofs.InRange.{channels_in_range, hsv_in_range}
+use Rattle.swatch.specs.declared.Swatch.TheVariants.{Color, Grey}
+use Rattle.swatch.specs.ToCell.{IsCell}
+use Rattle.swatch.proofs.Range.{accepted_as, swatch_in_range}
+use Rattle.swatch.proofs.swatch_cell.Goals as goal
+use Rattle.swatch.proofs.swatch_cell.Goals.{In-Hue}
+
+pub rgb_cell-requires : goal.rgb_cell-requires
+rgb_cell-requires c =
+    let p = c.requires in
+    let h = accepted_as c.swatch-1.given.1 p.1 in
+    record {
+      le_side = p.0;
+      all_in_range = swatch_in_range (Color c.swatch-1.given.0.0) h;
+    }
+
+
+pub coordinate-v-requires : goal.coordinate-v-requires
+coordinate-v-requires c =
+    let p = c.requires in
+    let h = accepted_as c.swatch-in-Grey-1.given.1 p.1 in
+    record {
+      le_side = p.0;
+      t = (swatch_in_range (Grey c.swatch-in-Grey-1.given.0.0) h).red;
+    }
+
+
+-- Past the match hue, saturation and value are in range.
+hsv : (c : In-Hue) → HsvInRange c.swatch-in-Hue-1.given.0.0
+hsv c =
+    hsv_in_range c.swatch-in-Hue-1.given.0.0
+    (accepted_as c.swatch-in-Hue-1.given.1 c.requires.swatch_value)
+
+pub channels-requires : goal.channels-requires
+channels-requires c = (hsv c).hue
+
+pub rgb_cell-requires-in-Hue : goal.rgb_cell-requires-in-Hue
+rgb_cell-requires-in-Hue c =
+    let w = c.swatch-in-Hue-1.given.0.0 in
+    record {
+      le_side = c.requires.le_side;
+      all_in_range = rw c.channels.ensures (channels_in_range w (hsv c.before));
+    }
+
+
+pub returns-in-Color : goal.returns-in-Color
+returns-in-Color c =
+    subst (λ w. IsCell c.args.side (channels_of w) c.rgb_cell.result)
+    (sym c.swatch-1.given.1) c.rgb_cell.ensures
+
+pub returns-in-Grey : goal.returns-in-Grey
+returns-in-Grey c =
+    let v = c.coordinate-v.result in
+    let e = c.coordinate-v.ensures in
+    subst (λ w. IsCell c.args.side (channels_of w) (record { x = v; y = v; z = v }))
+    (sym c.swatch-in-Grey-1.given.1) (record { x = e; y = e; z = e })
+
+pub returns-in-Hue : goal.returns-in-Hue
+returns-in-Hue c =
+    subst (λ w. IsCell c.args.side (channels_of w) c.rgb_cell-in-Hue.result)
+    (sym c.swatch-in-Hue-1.given.1) (rw (← c.channels.ensures) c.rgb_cell-in-Hue.ensures)
