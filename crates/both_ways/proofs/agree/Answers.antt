@@ -18,10 +18,10 @@ returns-else-n-m c =
     rw (one.1, other.1) (λ t. absurd (c.if-n-m.false (e.0 t)), λ a. absurd (c.if-n-m.false a.0))
 
 pub returns-in-Refused-other : goal.returns-in-Refused-other
-returns-in-Refused-other c = rw (c.one-1.given.1, c.enum_told-1.given.1) (λ t. t, λ a. a)
+returns-in-Refused-other c = rw (c.in-Accepted.is, c.in-Refused-other.is) (λ t. t, λ a. a)
 
 pub returns-in-Accepted-other-2 : goal.returns-in-Accepted-other-2
-returns-in-Accepted-other-2 c = rw (c.one-in-Refused-one-1.given.1, c.enum_told-in-Accepted-other-2-1.given.1) (λ t. t, λ a. a)
+returns-in-Accepted-other-2 c = rw (c.in-Refused.is, c.in-Accepted-other-2.is) (λ t. t, λ a. a)
 
 pub returns-in-Refused-other-2 : goal.returns-in-Refused-other-2
 returns-in-Refused-other-2 c =

@@ -12,7 +12,7 @@ use Rattle.chosen.proofs.choose_steps.Goals.{After-before_search}
 pub smallest-requires : goal.smallest-requires
 smallest-requires c =
     let b = c in
-    in_cube _ _ false false (sym b.before_search.ensures ∙ ap verdict_of c.enum_told-1.given.1) b.args.curve refl
+    in_cube _ _ false false (sym b.before_search.ensures ∙ ap verdict_of c.in-Accepted.is) b.args.curve refl
     (search rules)
 
 -- The answer by the verdict.
@@ -25,10 +25,10 @@ module _ (b : After-before_search) where
 pub returns-in-Refused : goal.returns-in-Refused
 returns-in-Refused c =
     let b = c in
-    sym (answered b ∙ ap (λ v. outcome (verdict_of v) (chosen b.args.curve.points)) c.k-1.given.1)
+    sym (answered b ∙ ap (λ v. outcome (verdict_of v) (chosen b.args.curve.points)) c.in-Refused.is)
 
 pub returns-in-Accepted : goal.returns-in-Accepted
 returns-in-Accepted c =
     let b = c in
     ap gives c.smallest.ensures ∙
-    sym (answered b ∙ ap (λ v. outcome (verdict_of v) (chosen b.args.curve.points)) c.enum_told-1.given.1)
+    sym (answered b ∙ ap (λ v. outcome (verdict_of v) (chosen b.args.curve.points)) c.in-Accepted.is)

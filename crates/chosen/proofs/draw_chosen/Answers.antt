@@ -31,7 +31,7 @@ module _ (b : After-before_search) where
 pub smallest-requires : goal.smallest-requires
 smallest-requires c =
     let b = c in
-    in_cube (s b).args.side (s b).args.curve.points _ _ (judged b ∙ ap verdict_of c.enum_told-1.given.1)
+    in_cube (s b).args.side (s b).args.curve.points _ _ (judged b ∙ ap verdict_of c.in-Accepted.is)
     (s b).args.curve refl (search rules)
 
 -- What is drawn is the curve with the chosen count, and it is accepted.
@@ -43,7 +43,7 @@ module _ (w : After-with_steps-chosen) where
   curve = (s b).args.curve
 
   is_accepted : (d b).verdict (length (s b).args.grid.now) ≡ accepted
-  is_accepted = judged b ∙ ap verdict_of w.enum_told-1.given.1
+  is_accepted = judged b ∙ ap verdict_of w.in-Accepted.is
 
   with_chosen : curve_of w.with_steps-chosen.result ≡ chosen_curve curve.points curve.mark curve.choice
   with_chosen =
@@ -69,7 +69,7 @@ overflow_add-answer c =
 pub returns-in-Refused : goal.returns-in-Refused
 returns-in-Refused c =
     let b = c in
-    draws_refused (d b) (s b).args.grid.now (judged b ∙ ap verdict_of c.k-1.given.1)
+    draws_refused (d b) (s b).args.grid.now (judged b ∙ ap verdict_of c.in-Refused.is)
 
 pub returns-in-Accepted : goal.returns-in-Accepted
 unfolding sample_count

@@ -23,14 +23,14 @@ tells c short =
     let b = c in
     ap₂ outcome
     (sym (test_accepted b.args.side b.args.curve false false false b.before_test.result
-    b.before_test.ensures c.enum_told-1.given.1 c.test_steps.ensures.0 short))
+    b.before_test.ensures c.in-Accepted.is c.test_steps.ensures.0 short))
     c.test_steps.ensures.1
 
 pub test_steps-requires : goal.test_steps-requires
 test_steps-requires c =
     let b = c in
     in_limits b.args.side b.args.curve false false false b.before_test.result
-    b.before_test.ensures c.enum_told-1.given.1 (search rules)
+    b.before_test.ensures c.in-Accepted.is (search rules)
 
 pub returns-in-Refused : goal.returns-in-Refused
 unfolding check_verdict
@@ -38,16 +38,16 @@ returns-in-Refused c =
     let b = c in
     sym (ap (λ v. outcome v (quit b))
     (before_refused b.args.side b.args.curve false false false b.before_test.result
-    b.before_test.ensures c.k-1.given.1))
+    b.before_test.ensures c.in-Refused.is))
 
 pub returns-in-Walked : goal.returns-in-Walked
 returns-in-Walked c =
-    let e = c.enum_told-in-Walked-1.given.1 in
+    let e = c.in-Walked.is in
     sym (ap (λ t. gives (tells_quit t)) e) ∙ tells c.before (ap tells_long e)
 
 pub returns-in-Quit : goal.returns-in-Quit
 returns-in-Quit c =
-    let e = c.enum_told-in-Quit-1.given.1 in
+    let e = c.in-Quit.is in
     sym (ap (λ t. gives (tells_quit t)) e) ∙ tells c.before (ap tells_long e)
 
 pub returns-in-TooLong : goal.returns-in-TooLong
@@ -57,5 +57,5 @@ returns-in-TooLong c =
     let b = t in
     sym (ap (λ v. outcome v (quit b))
     (test_refused b.args.side b.args.curve false false false b.before_test.result
-    b.before_test.ensures t.enum_told-1.given.1 t.test_steps.ensures.0
-    (ap tells_long c.enum_told-in-TooLong-1.given.1)))
+    b.before_test.ensures t.in-Accepted.is t.test_steps.ensures.0
+    (ap tells_long c.in-TooLong.is)))

@@ -41,14 +41,14 @@ is_accepted c =
     let b = t in
     judged b ∙
     test_accepted (s b).args.side (s b).args.curve (wrong b) (unmarked b) false b.before_test.result
-    b.before_test.ensures t.enum_told-1.given.1 t.test_steps.ensures.0
+    b.before_test.ensures t.in-Accepted.is t.test_steps.ensures.0
     (not_long t.test_steps.result c.in_default.keys2)
 
 pub test_steps-requires : goal.test_steps-requires
 test_steps-requires c =
     let b = c in
     in_limits (s b).args.side (s b).args.curve (wrong b) (unmarked b) false b.before_test.result
-    b.before_test.ensures c.enum_told-1.given.1 (search rules)
+    b.before_test.ensures c.in-Accepted.is (search rules)
 
 pub mark_samples-new_cells-requires : goal.mark_samples-new_cells-requires
 mark_samples-new_cells-requires c = is_accepted c.before
@@ -64,7 +64,7 @@ returns-in-Refused c =
     draws_refused (drawing_of (s b).args.side (curve_of (s b).args.curve)) (s b).args.grid.now
     (judged b ∙
     before_refused (s b).args.side (s b).args.curve (wrong b) (unmarked b) false b.before_test.result
-    b.before_test.ensures c.k-1.given.1)
+    b.before_test.ensures c.in-Refused.is)
 
 pub returns-in-TooLong : goal.returns-in-TooLong
 returns-in-TooLong c =
@@ -73,8 +73,8 @@ returns-in-TooLong c =
     draws_refused (drawing_of (s b).args.side (curve_of (s b).args.curve)) (s b).args.grid.now
     (judged b ∙
     test_refused (s b).args.side (s b).args.curve (wrong b) (unmarked b) false b.before_test.result
-    b.before_test.ensures t.enum_told-1.given.1 t.test_steps.ensures.0
-    (ap tells_long c.enum_told-in-TooLong-1.given.1))
+    b.before_test.ensures t.in-Accepted.is t.test_steps.ensures.0
+    (ap tells_long c.in-TooLong.is))
 
 pub returns-in_default : goal.returns-in_default
 unfolding sample_count

@@ -41,13 +41,13 @@ is_accepted c =
     let b = t in
     judged b ∙
     test_accepted (s b).args.side (s b).args.curve false false (short b) b.before_test.result
-    b.before_test.ensures t.enum_told-1.given.1 t.test_steps.ensures.0 (not_long t.test_steps.result c.in_default.keys2)
+    b.before_test.ensures t.in-Accepted.is t.test_steps.ensures.0 (not_long t.test_steps.result c.in_default.keys2)
 
 pub test_steps-requires : goal.test_steps-requires
 test_steps-requires c =
     let b = c in
     in_limits (s b).args.side (s b).args.curve false false (short b) b.before_test.result
-    b.before_test.ensures c.enum_told-1.given.1 (search rules)
+    b.before_test.ensures c.in-Accepted.is (search rules)
 
 pub list_samples-requires : goal.list_samples-requires
 list_samples-requires c = is_accepted c.before
@@ -63,7 +63,7 @@ returns-in-Refused c =
     lists_refused (listing_of (s b).args.side (curve_of (s b).args.curve)) (s b).args.list.now
     (judged b ∙
     before_refused (s b).args.side (s b).args.curve false false (short b) b.before_test.result
-    b.before_test.ensures c.k-1.given.1)
+    b.before_test.ensures c.in-Refused.is)
 
 pub returns-in-TooLong : goal.returns-in-TooLong
 returns-in-TooLong c =
@@ -72,7 +72,7 @@ returns-in-TooLong c =
     lists_refused (listing_of (s b).args.side (curve_of (s b).args.curve)) (s b).args.list.now
     (judged b ∙
     test_refused (s b).args.side (s b).args.curve false false (short b) b.before_test.result
-    b.before_test.ensures t.enum_told-1.given.1 t.test_steps.ensures.0 (ap tells_long c.enum_told-in-TooLong-1.given.1))
+    b.before_test.ensures t.in-Accepted.is t.test_steps.ensures.0 (ap tells_long c.in-TooLong.is))
 
 pub returns-in_default : goal.returns-in_default
 unfolding sample_count

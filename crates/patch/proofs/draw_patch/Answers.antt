@@ -30,11 +30,11 @@ counts : (c : After-mark_samples-new_cells) → let p = (s c.before).args.patch 
 counts c =
     let t = c in
     let b = t in
-    let d = ((draw_accepted _ _ _).0 (judged b ∙ ap verdict_of t.enum_told-1.given.1)).0 in
+    let d = ((draw_accepted _ _ _).0 (judged b ∙ ap verdict_of t.in-Accepted.is)).0 in
     (d.count_most 0 (lit< tt), d.count_most 1 (lit< tt))
 
 pub mark_samples-new_cells-requires : goal.mark_samples-new_cells-requires
-mark_samples-new_cells-requires c = judged c.before ∙ ap verdict_of c.enum_told-1.given.1
+mark_samples-new_cells-requires c = judged c.before ∙ ap verdict_of c.in-Accepted.is
 
 pub overflow_add-answer : goal.overflow_add-answer
 overflow_add-answer c = let n = counts c.before in record { fits = omega arith }
@@ -54,7 +54,7 @@ pub returns-in-Refused : goal.returns-in-Refused
 returns-in-Refused c =
     let b = c in
     draws_refused (drawing_of (s b).args.side (patch_of (s b).args.patch)) (s b).args.grid.now
-    (judged b ∙ ap verdict_of c.k-1.given.1)
+    (judged b ∙ ap verdict_of c.in-Refused.is)
 
 pub returns-in-Accepted : goal.returns-in-Accepted
 unfolding sample_count
@@ -63,4 +63,4 @@ returns-in-Accepted c =
     let t = m in
     let b = t in
     draws_accepted (drawing_of (s b).args.side (patch_of (s b).args.patch)) (s b).args.grid.now
-    (judged b ∙ ap verdict_of t.enum_told-1.given.1) _ m.mark_samples-new_cells.ensures.grid_after_2 (omega arith) m.mark_samples-new_cells.ensures.grid_after
+    (judged b ∙ ap verdict_of t.in-Accepted.is) _ m.mark_samples-new_cells.ensures.grid_after_2 (omega arith) m.mark_samples-new_cells.ensures.grid_after

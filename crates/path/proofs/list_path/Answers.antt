@@ -67,7 +67,7 @@ returns-in-Refused c =
     let a = k.args in
     lists_refused (path_listing a.side (curve_of a.curve)) a.list-1.now
     (check_refused _ _ _
-    (answer_refused _ _ (sym (ap check_answer_of c.k-1.given.1) ∙ k.check_curve.ensures)))
+    (answer_refused _ _ (sym (ap check_answer_of c.in-Refused.is) ∙ k.check_curve.ensures)))
 
 pub returns-else-list-most : goal.returns-else-list-most
 unfolding path_length

@@ -43,10 +43,10 @@ module _ (c : In-Good) where
   j = c.before
 
   abbrev size : Size
-  size = c.size-1.given.0.0
+  size = c.in-Good.size-1
 
   drawn : found (judge (input j)) ≡ sized size.side size.curves
-  drawn = judged j ∙ ap found_of c.size-1.given.1
+  drawn = judged j ∙ ap found_of c.in-Good.is
 
 pub cells-cells-requires : goal.cells-cells-requires
 cells-cells-requires c = (good_sheet (input (j c)) (drawn c)).side_most
@@ -75,7 +75,7 @@ draw_lines-new_cells-requires c =
 pub returns-in-Refused : goal.returns-in-Refused
 returns-in-Refused c =
     let j = c in
-    refused_call (input j) (buffer j) (lent j) _ (judged j ∙ ap found_of c.refusal-1.given.1)
+    refused_call (input j) (buffer j) (lent j) _ (judged j ∙ ap found_of c.in-Refused.is)
 
 pub returns-in-Good : goal.returns-in-Good
 returns-in-Good c =

@@ -41,11 +41,11 @@ counts : (c : After-mark_slices-new_cells) → let p = (s c.before).args.solid i
 counts c =
     let t = c in
     let b = t in
-    let d = ((draw_accepted _ _ _).0 (judged b ∙ ap verdict_of t.enum_told-1.given.1)).0 in
+    let d = ((draw_accepted _ _ _).0 (judged b ∙ ap verdict_of t.in-Accepted.is)).0 in
     (d.count_most 0 (lit< tt), d.count_most 1 (lit< tt), d.count_most 2 (lit< tt))
 
 pub mark_slices-new_cells-requires : goal.mark_slices-new_cells-requires
-mark_slices-new_cells-requires c = judged c.before ∙ ap verdict_of c.enum_told-1.given.1
+mark_slices-new_cells-requires c = judged c.before ∙ ap verdict_of c.in-Accepted.is
 
 pub overflow_add-answer : goal.overflow_add-answer
 overflow_add-answer c = let n = counts c.before in record { fits = omega arith }
@@ -68,7 +68,7 @@ pub returns-in-Refused : goal.returns-in-Refused
 returns-in-Refused c =
     let b = c in
     draws_refused (drawing_of (s b).args.side (solid_of (s b).args.solid)) (s b).args.grid.now
-    (judged b ∙ ap verdict_of c.k-1.given.1)
+    (judged b ∙ ap verdict_of c.in-Refused.is)
 
 pub returns-in-Accepted : goal.returns-in-Accepted
 unfolding sample_count
@@ -77,4 +77,4 @@ returns-in-Accepted c =
     let t = m in
     let b = t in
     draws_accepted (drawing_of (s b).args.side (solid_of (s b).args.solid)) (s b).args.grid.now
-    (judged b ∙ ap verdict_of t.enum_told-1.given.1) _ m.mark_slices-new_cells.ensures.grid_after_2 (omega arith) m.mark_slices-new_cells.ensures.grid_after
+    (judged b ∙ ap verdict_of t.in-Accepted.is) _ m.mark_slices-new_cells.ensures.grid_after_2 (omega arith) m.mark_slices-new_cells.ensures.grid_after

@@ -27,7 +27,7 @@ step_too_long-requires c =
     let b = c in
     let p = past_tests (s b).args.side (solid_of (s b).args.solid) (s b).args.grid_wrong (s b).args.mark_wrong
     false (out b) (counted b) b.before_steps.result b.before_steps.ensures
-    c.enum_told-1.given.1 in
+    c.in-Accepted.is in
     let n = (counts_in 32 (solid_of (s b).args.solid).counts).0 (sym (counted b) ∙ p.count_in) in
     record {
       n_least = n.0 0 (lit< tt);
@@ -45,7 +45,7 @@ returns-in-Refused c =
     let b = c in
     refused_before (s b).args.side (solid_of (s b).args.solid) (s b).args.grid_wrong (s b).args.mark_wrong
     false (out b) (counted b) b.before_steps.result b.before_steps.ensures
-    c.k-1.given.1
+    c.in-Refused.is
 
 pub returns-then-step_too_long : goal.returns-then-step_too_long
 returns-then-step_too_long c =
@@ -53,7 +53,7 @@ returns-then-step_too_long c =
     let b = t in
     refused_long (s b).args.side (solid_of (s b).args.solid) (s b).args.grid_wrong (s b).args.mark_wrong
     false (out b) (counted b) b.before_steps.result b.before_steps.ensures
-    t.enum_told-1.given.1 c.step_too_long.ensures c.if-step_too_long.true
+    t.in-Accepted.is c.step_too_long.ensures c.if-step_too_long.true
 
 pub returns-else-step_too_long : goal.returns-else-step_too_long
 returns-else-step_too_long c =
@@ -61,4 +61,4 @@ returns-else-step_too_long c =
     let b = t in
     accepted_short (s b).args.side (solid_of (s b).args.solid) (s b).args.grid_wrong (s b).args.mark_wrong
     false (out b) (counted b) b.before_steps.result b.before_steps.ensures
-    t.enum_told-1.given.1 c.step_too_long.ensures c.if-step_too_long.false
+    t.in-Accepted.is c.step_too_long.ensures c.if-step_too_long.false

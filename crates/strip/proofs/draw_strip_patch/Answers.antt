@@ -23,7 +23,7 @@ returns-in-Refused c =
     let j = k in
     let a = j.args in
     draws_refused (strip_drawing a.side (patch_of a.patch)) a.grid-1.now
-    (subst (λ v. Judges a.side (length a.grid-1.now) (patch_of a.patch) (verdict_of v)) k.k-1.given.1 (judged j))
+    (subst (λ v. Judges a.side (length a.grid-1.now) (patch_of a.patch) (verdict_of v)) k.in-Refused.is (judged j))
 
 pub returns-in-Accepted : goal.returns-in-Accepted
 returns-in-Accepted c =
@@ -33,5 +33,5 @@ returns-in-Accepted c =
     let a = j.args in
     as_the_other _ _
     (taken_alike a.side (patch_of a.patch)
-    (subst (λ v. Judges a.side (length a.grid-1.now) (patch_of a.patch) (verdict_of v)) e.enum_told-1.given.1 (judged j)))
+    (subst (λ v. Judges a.side (length a.grid-1.now) (patch_of a.patch) (verdict_of v)) e.in-Accepted.is (judged j)))
     d.draw_patch.ensures

@@ -8,11 +8,11 @@ use Rattle.swatch.proofs.channels.Goals as goal
 
 pub channels-requires : goal.channels-requires
 channels-requires c =
-    let h = accepted_as c.swatch-in-Hue-1.given.1 c.requires in
-    (hsv_in_range c.swatch-in-Hue-1.given.0.0 h).hue
+    let h = accepted_as c.in-Hue.is c.requires in
+    (hsv_in_range c.in-Hue.w h).hue
 
 pub returns-in-Grey : goal.returns-in-Grey
-returns-in-Grey c = sym (ap channels_of c.swatch-in-Grey-1.given.1)
+returns-in-Grey c = sym (ap channels_of c.in-Grey.is)
 
 pub returns-in-Hue : goal.returns-in-Hue
-returns-in-Hue c = c.channels.ensures ∙ sym (ap channels_of c.swatch-in-Hue-1.given.1)
+returns-in-Hue c = c.channels.ensures ∙ sym (ap channels_of c.in-Hue.is)

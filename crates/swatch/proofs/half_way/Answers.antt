@@ -14,23 +14,23 @@ returns-in-Refused c =
     let v = c in
     let s = v.args in
     append_refused (swatch_refusals s.a) (swatch_refusals s.b)
-    (sym v.swatch_verdict.ensures ∙ ap verdict_of c.n-1.given.1)
+    (sym v.swatch_verdict.ensures ∙ ap verdict_of c.in-Refused.is)
 
 -- Past the first match the first swatch is accepted.
 first : (c : In-Accepted) → first_that (swatch_refusals c.args.a) ≡ accepted
-first c = sym c.swatch_verdict.ensures ∙ ap verdict_of c.enum_told-1.given.1
+first c = sym c.swatch_verdict.ensures ∙ ap verdict_of c.in-Accepted.is
 
 -- Past the second match the second swatch is.
 second : (c : In-Accepted-swatch_verdict)
     → first_that (swatch_refusals c.args.b) ≡ accepted
-second c = sym c.swatch_verdict-in-Accepted.ensures ∙ ap verdict_of c.enum_told-in-Accepted-swatch_verdict-1.given.1
+second c = sym c.swatch_verdict-in-Accepted.ensures ∙ ap verdict_of c.in-Accepted-swatch_verdict.is
 
 pub returns-in-Refused-swatch_verdict : goal.returns-in-Refused-swatch_verdict
 returns-in-Refused-swatch_verdict c =
     let v = c in
     let s = v.args in
     append_passes (swatch_refusals s.a) (swatch_refusals s.b) (first v.before)
-    ∙ sym v.swatch_verdict-in-Accepted.ensures ∙ ap verdict_of c.n-in-Refused-swatch_verdict-2-1.given.1
+    ∙ sym v.swatch_verdict-in-Accepted.ensures ∙ ap verdict_of c.in-Refused-swatch_verdict.is
 
 pub rgb_half_way-requires : goal.rgb_half_way-requires
 rgb_half_way-requires c =

@@ -49,7 +49,7 @@ returns-in-Refused c =
     sym
     (append_passes (hues w) (saturations w ++ values w) (hue v.before)
     ∙ append_refused (saturations w) (values w)
-    (sym v.channel_verdict.ensures ∙ ap verdict_of c.n-1.given.1))
+    (sym v.channel_verdict.ensures ∙ ap verdict_of c.in-Refused.is))
 
 pub returns-in-Accepted : goal.returns-in-Accepted
 returns-in-Accepted c =
@@ -59,4 +59,4 @@ returns-in-Accepted c =
     ∙ sym
     (append_passes (hues w) (saturations w ++ values w) (hue v.before)
     ∙ append_passes (saturations w) (values w)
-    (sym v.channel_verdict.ensures ∙ ap verdict_of c.enum_told-1.given.1))
+    (sym v.channel_verdict.ensures ∙ ap verdict_of c.in-Accepted.is))

@@ -14,35 +14,35 @@ use Rattle.swatch.proofs.swatch_cell.Goals.{In-Hue}
 pub rgb_cell-requires : goal.rgb_cell-requires
 rgb_cell-requires c =
     let p = c.requires in
-    let h = accepted_as c.swatch-1.given.1 p.1 in
+    let h = accepted_as c.in-Color.is p.1 in
     record {
       le_side = p.0;
-      all_in_range = swatch_in_range (Color c.swatch-1.given.0.0) h;
+      all_in_range = swatch_in_range (Color c.in-Color.c) h;
     }
 
 
 pub coordinate-v-requires : goal.coordinate-v-requires
 coordinate-v-requires c =
     let p = c.requires in
-    let h = accepted_as c.swatch-in-Grey-1.given.1 p.1 in
+    let h = accepted_as c.in-Grey.is p.1 in
     record {
       le_side = p.0;
-      t = (swatch_in_range (Grey c.swatch-in-Grey-1.given.0.0) h).red;
+      t = (swatch_in_range (Grey c.in-Grey.g) h).red;
     }
 
 
 -- Past the match hue, saturation and value are in range.
-hsv : (c : In-Hue) → HsvInRange c.swatch-in-Hue-1.given.0.0
+hsv : (c : In-Hue) → HsvInRange c.in-Hue.w
 hsv c =
-    hsv_in_range c.swatch-in-Hue-1.given.0.0
-    (accepted_as c.swatch-in-Hue-1.given.1 c.requires.swatch_value)
+    hsv_in_range c.in-Hue.w
+    (accepted_as c.in-Hue.is c.requires.swatch_value)
 
 pub channels-requires : goal.channels-requires
 channels-requires c = (hsv c).hue
 
 pub rgb_cell-requires-in-Hue : goal.rgb_cell-requires-in-Hue
 rgb_cell-requires-in-Hue c =
-    let w = c.swatch-in-Hue-1.given.0.0 in
+    let w = c.in-Hue.w in
     record {
       le_side = c.requires.le_side;
       all_in_range = rw c.channels.ensures (channels_in_range w (hsv c.before));
@@ -52,16 +52,16 @@ rgb_cell-requires-in-Hue c =
 pub returns-in-Color : goal.returns-in-Color
 returns-in-Color c =
     subst (λ w. IsCell c.args.side (channels_of w) c.rgb_cell.result)
-    (sym c.swatch-1.given.1) c.rgb_cell.ensures
+    (sym c.in-Color.is) c.rgb_cell.ensures
 
 pub returns-in-Grey : goal.returns-in-Grey
 returns-in-Grey c =
     let v = c.coordinate-v.result in
     let e = c.coordinate-v.ensures in
     subst (λ w. IsCell c.args.side (channels_of w) (record { x = v; y = v; z = v }))
-    (sym c.swatch-in-Grey-1.given.1) (record { x = e; y = e; z = e })
+    (sym c.in-Grey.is) (record { x = e; y = e; z = e })
 
 pub returns-in-Hue : goal.returns-in-Hue
 returns-in-Hue c =
     subst (λ w. IsCell c.args.side (channels_of w) c.rgb_cell-in-Hue.result)
-    (sym c.swatch-in-Hue-1.given.1) (rw (← c.channels.ensures) c.rgb_cell-in-Hue.ensures)
+    (sym c.in-Hue.is) (rw (← c.channels.ensures) c.rgb_cell-in-Hue.ensures)

@@ -9,13 +9,13 @@ use Rattle.swatch.proofs.swatch_verdict.Goals as goal
 
 pub returns-in-Color : goal.returns-in-Color
 returns-in-Color c =
-    c.rgb_verdict.ensures ∙ sym (ap (λ w. first_that (swatch_refusals w)) c.swatch-1.given.1)
+    c.rgb_verdict.ensures ∙ sym (ap (λ w. first_that (swatch_refusals w)) c.in-Color.is)
 
 pub returns-in-Grey : goal.returns-in-Grey
 returns-in-Grey c =
-    c.channel_verdict.ensures ∙ sym (grey_first c.swatch-in-Grey-1.given.0.0)
-    ∙ sym (ap (λ w. first_that (swatch_refusals w)) c.swatch-in-Grey-1.given.1)
+    c.channel_verdict.ensures ∙ sym (grey_first c.in-Grey.g)
+    ∙ sym (ap (λ w. first_that (swatch_refusals w)) c.in-Grey.is)
 
 pub returns-in-Hue : goal.returns-in-Hue
 returns-in-Hue c =
-    c.hsv_verdict.ensures ∙ sym (ap (λ w. first_that (swatch_refusals w)) c.swatch-in-Hue-1.given.1)
+    c.hsv_verdict.ensures ∙ sym (ap (λ w. first_that (swatch_refusals w)) c.in-Hue.is)

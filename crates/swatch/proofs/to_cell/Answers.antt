@@ -37,7 +37,7 @@ past c =
 -- Past the match the swatch is accepted.
 is_accepted : (c : In-Accepted)
     → first_that (swatch_refusals c.args.swatch) ≡ accepted
-is_accepted c = sym c.swatch_verdict.ensures ∙ ap verdict_of c.enum_told-1.given.1
+is_accepted c = sym c.swatch_verdict.ensures ∙ ap verdict_of c.in-Accepted.is
 
 pub swatch_cell-requires : goal.swatch_cell-requires
 swatch_cell-requires c =
@@ -50,7 +50,7 @@ swatch_cell-requires c =
 pub returns-in-Refused : goal.returns-in-Refused
 returns-in-Refused c =
     past c.before ∙ sym c.swatch_verdict.ensures
-    ∙ ap verdict_of c.n-1.given.1
+    ∙ ap verdict_of c.in-Refused.is
 
 pub returns-in-Accepted : goal.returns-in-Accepted
 returns-in-Accepted c =

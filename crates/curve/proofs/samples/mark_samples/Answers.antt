@@ -89,7 +89,7 @@ returns-in-Over c =
     let t = m in
     record {
       grid_after = m.mark_row.ensures.grid_after;
-      grid_after_2 = left t.before t.enum_told-1.given.1 m.mark_row.ensures.grid_after_2;
+      grid_after_2 = left t.before t.in-Over.is m.mark_row.ensures.grid_after_2;
     }
 
 
@@ -99,6 +99,6 @@ returns-in-Under c =
     let t = m in
     record {
       grid_after = m.mark_row-in-Under.ensures.grid_after;
-      grid_after_2 = left t.before t.enum_told-in-Under-1.given.1 m.mark_row-in-Under.ensures.grid_after_2;
+      grid_after_2 = left t.before t.in-Under.is m.mark_row-in-Under.ensures.grid_after_2;
     }
 

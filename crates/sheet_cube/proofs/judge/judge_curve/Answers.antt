@@ -68,7 +68,7 @@ module _ (c : After-check_curve) where
 pub returns-in-Refused : goal.returns-in-Refused
 returns-in-Refused c =
     let k = c in
-    sym (answer_refused _ _ (sym (ap check_answer_of c.number-1.given.1) ∙ k.check_curve.ensures)) ∙ judged k
+    sym (answer_refused _ _ (sym (ap check_answer_of c.in-Refused.is) ∙ k.check_curve.ensures)) ∙ judged k
 
 pub returns-in_default : goal.returns-in_default
 returns-in_default c =

@@ -61,7 +61,7 @@ module _ (c : After-judge_curve  where
 pub returns-in-Refused : goal.returns-in-Refused
 returns-in-Refused c =
     let j = c in
-    let e = sym (judged j) ∙ ap verdict_of c.number-1.given.1 in
+    let e = sym (judged j) ∙ ap verdict_of c.in-Refused.is in
     sym (ap found (left_refused (input j) (side j) (loop j).loop-at.invariant.left (there j) e))
 
 -- The line at hand is accepted.
@@ -70,7 +70,7 @@ module _ (c : In-Accepted  where
   judging = c.before
 
   taken : first_that (curve_order (side judging) (loop judging).loop-at.line (first_line (drop (at judging) (input judging)))) ≡ accepted
-  taken = sym (judged judging) ∙ ap verdict_of c.enum_told-1.given.1
+  taken = sym (judged judging) ∙ ap verdict_of c.in-Accepted.is
 
   line_there : at judging + 71 ≤ length (input judging)
   line_there = line_within (input judging) (side judging) (loop judging).loop-at.invariant.left (there judging) taken

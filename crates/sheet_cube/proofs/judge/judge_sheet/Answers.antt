@@ -9,10 +9,10 @@ use Rattle.sheet_cube.proofs.judge.judge_sheet.Goals as goal
 pub judge_curves-requires : goal.judge_curves-requires
 judge_curves-requires c =
     let j = c in
-    subst (SideOf (first_line j.args.input.now)) c.side-1.given.1 j.judge_side.ensures
+    subst (SideOf (first_line j.args.input.now)) c.in-Good.is j.judge_side.ensures
 
 pub returns-in-Refused : goal.returns-in-Refused
 returns-in-Refused c =
     let j = c in
     let input = j.args.input.now in
-    sym (ap found (side_refused input (subst (SideOf (first_line input)) c.number-1.given.1 j.judge_side.ensures)))
+    sym (ap found (side_refused input (subst (SideOf (first_line input)) c.in-Refused.is j.judge_side.ensures)))

@@ -42,7 +42,7 @@ module _ (c : After-number_at-side) where
   right = (first c.before).right
 
 pub returns-in-100000 : goal.returns-in-100000
-returns-in-100000 c = let r = c in side_bad (line r) (right r) (sym (is_read r) ∙ c.in-100000.keys1)
+returns-in-100000 c = let r = c in side_bad (line r) (right r) (sym (is_read r) ∙ c.in-100000.is)
 
 -- Any other number is below 100000.
 module _ (c : In_default-1) where
