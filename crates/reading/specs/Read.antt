@@ -1,8 +1,12 @@
 -- Reading into a lent buffer: one read, what its answer says, and reads one after the other.
 use Rattle.std.specs.Prelude.{ℕ, ◌+◌, ◌-◌, ◌≤◌, ◌<◌, ◌≡◌, Bool, true, false, List, length, take, ℤ, pos, negsuc}
 use Rattle.io.specs.Counts.{clamp_len}
-use Rattle.libc.specs.Io.{Moved}
 use Rattle.reading.specs.declared.Input.{Input}
+
+-- What a read that is lent n bytes may answer: -1, or how many bytes it put there, at most n.
+abbrev pub Moved : ℕ → ℤ → Type 0
+Moved n (pos k) = k ≤ n
+Moved n (negsuc k) = k ≡ 0
 
 -- One read into the buffer from byte at on. Its answer is -1, or a number of bytes for which there is room; the bytes
 -- before stay.

@@ -5,6 +5,8 @@
 ghost use Rattle.std.specs.Prelude.{◌≡◌, ◌≤◌, length};
 ghost use Rattle.reading.specs.Read.{ReadAt, input_of, Filled};
 
+use std::io::Read;
+
 // How many bytes were read, and whether a read failed.
 #[derive(Clone, Copy)]
 pub struct Input {
@@ -13,12 +15,12 @@ pub struct Input {
 }
 
 // Reads until buf is full, the input ends or a read fails.
-pub fn fill(fd: i32, buf: &mut [u8]) -> Input
+pub fn fill<R: Read>(reader: &mut R, buf: &mut [u8]) -> Input
     ensures { Filled buf.old result.count result.failed buf.new }
 {
     let mut done = 0;
     while done < buf.len() {
-        let got = read_at(fd, buf, done);
+        let got = read_at(reader, buf, done);
         let input = answered(got, &buf[done..]);
         if input.count == 0 {
             return Input {
@@ -34,12 +36,15 @@ pub fn fill(fd: i32, buf: &mut [u8]) -> Input
     }
 }
 
-// One read into buf from byte at on. Answers what the read answered.
-fn read_at(fd: i32, buf: &mut [u8], at: usize) -> isize
+// One read into buf from byte at on. Answers the number of bytes that it put there, or -1 if it failed.
+fn read_at<R: Read>(reader: &mut R, buf: &mut [u8], at: usize) -> isize
     requires { at ≤ length buf.old }
     ensures { ReadAt buf.old at result buf.new }
 {
-    libc::read(fd, &mut buf[at..])
+    match reader.read(&mut buf[at..]) {
+        Ok(count) => count as isize,
+        Err(_) => -1,
+    }
 }
 
 // What a read's answer says of the bytes lent to it.
