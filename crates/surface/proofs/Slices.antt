@@ -90,8 +90,8 @@ module _ {Q : (i j k : ℕ) → ℤ} (t : IsTricubic Q) where
       (surface_at_lem (across_bicubic 0) k) (surface_at_lem (across_bicubic 1) k)
       (surface_at_lem (across_bicubic 2) k) (surface_at_lem (across_bicubic 3) k)
 
-  pub slice_at : (k : ℕ) → slice_of (volume_at (volume_of Q 0) k) ≡ surface_of (slice_at Q k) 0
-  slice_at k = ap slice_of (volume_at_lem k) ∙ slice_of_lem Q k
+  pub slice_at_lem : (k : ℕ) → slice_of (volume_at (volume_of Q 0) k) ≡ surface_of (slice_at Q k) 0
+  slice_at_lem k = ap slice_of (volume_at_lem k) ∙ slice_of_lem Q k
 
   pub steps_at : (k : ℕ) → slice_of (along_v (volume_at (volume_of Q 0) k)) ≡ surface_of (slice_at (v_steps Q) k) 0
   steps_at k = ap (λ v. slice_of (along_v v)) (volume_at_lem k) ∙ ap slice_of (v_steps_of k) ∙ slice_of_lem (v_steps Q) k

@@ -28,7 +28,7 @@ pub record AtSlice (v : Volume) (N : ℤ) (n m l : ℕ) (found : Bool) (rest : V
   pub passed_on : (b : ℕ) → b < k → long_to_next v N n m b ≡ false
 
 abbrev pub invariant-search : goal.invariant-search
-invariant-search l = AtSlice l.initial.rest l.l.scale l.l.n l.l.m l.l l.found l.rest l.k
+invariant-search l = AtSlice l.initial.rest l.scale l.n l.m l.l l.found l.rest l.k
 
 abbrev pub decreases-search : goal.decreases-search
 decreases-search l = l.l - l.k
