@@ -10,7 +10,7 @@ use native.Mathlib.Omega.{arith}
 use lib.Dec.{T}
 use lib.IntN.{ℤ, pos}
 use Rattle.integers.specs.Magnitude.{Within}
-use Rattle.bezier.specs.Exact.{Sample, no_index, index}
+use Rattle.bezier.specs.Exact.{no_index, index}
 use Rattle.decide.specs.Some.{some_below}
 use Rattle.decide.proofs.Truth.{either, same_test}
 use Rattle.decide.proofs.Some.{some_below_lem}

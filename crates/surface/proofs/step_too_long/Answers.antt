@@ -1,15 +1,13 @@
 -- `step_too_long` meets its contract: some difference along t is beyond 2N, or some along u.
-use borrow.Author.Rules.{rules}
 use mathlib.Core.Path.{◌≡◌, refl, sym, ◌∙◌}
 use mathlib.Core.Bool.{Bool}
-use Prim.Native.Nat.{ℕ, suc}
+use Prim.Native.Nat.{ℕ}
 use native.Mathlib.Numerals.{add-one}
 use native.Mathlib.Omega.{arith}
 use lib.IntN.{ℤ}
 use mir.Facts.{to_z-of_z}
-use Rattle.cubic.proofs.Fits.{read}
 use Rattle.surface.specs.declared.Surface.{Surface}
-use Rattle.surface.specs.Surface.{along_t, along_u, some_long, long_steps, Searchable}
+use Rattle.surface.specs.Surface.{some_long, long_steps, Searchable}
 use Rattle.surface.proofs.step_too_long.Goals as goal
 
 -- With the surface, the scale and the counts as the code holds them.
