@@ -14,7 +14,6 @@ use Rattle.cubic.proofs.Next.{same_fields, next_differences, nexts_differences}
 use Rattle.cubic.proofs.Rows.{row_delta}
 use Rattle.cubic.proofs.Across.{delta_none, delta_same, delta_less, delta_steps, less_cubic, later_cubic, delta_cubic}
 use Rattle.cubic.proofs.Bounds.{within_fields}
-use Rattle.surface.specs.declared.Surface.{Surface}
 use Rattle.surface.specs.Surface.{surface_of, start_across, StartsAcross, row_of, next_surface, surface_at, cubic_at, value_at}
 use Rattle.surface.specs.Surface.{steps_of, no_cubic, along_t, along_u, SurfaceRoom, Searchable, Bounded, t_steps, u_steps}
 use Rattle.surface.proofs.Parts.{same_cubics}

@@ -10,7 +10,7 @@ use native.Mathlib.Omega.{arith}
 use lib.Dec.{T}
 use lib.IntN.{ℤ, pos}
 use Rattle.integers.specs.Magnitude.{Within}
-use Rattle.bezier.specs.Exact.{Sample, no_index, index}
+use Rattle.bezier.specs.Exact.{no_index, index}
 use Rattle.decide.specs.Some.{some_below}
 use Rattle.decide.proofs.Truth.{either, same_test}
 use Rattle.decide.proofs.Some.{some_below_lem}
@@ -24,7 +24,7 @@ use Rattle.surface.specs.Volume.{volume_of, long_in_slice, long_to_next, long_vo
 use Rattle.surface.specs.Volume.{VolumeSearchable, VolumeBounded, slice_at, v_steps}
 use Rattle.surface.proofs.Follows.{value_at_lem, t_steps_of, u_steps_of, t_steps_bicubic, u_steps_bicubic}
 use Rattle.surface.proofs.Follows.{t_steps_bounded, u_steps_bounded, searchable}
-use Rattle.surface.proofs.Slices.{slice_bicubic, v_steps_tricubic, volume_at_lem, slice_at, steps_at}
+use Rattle.surface.proofs.Slices.{slice_bicubic, v_steps_tricubic, volume_at_lem, slice_at_lem, steps_at}
 use Rattle.surface.proofs.Slices.{volume_room, slice_bounded, v_steps_bounded}
 
 -- A value beyond 2N, among so many rows and samples.
@@ -131,7 +131,7 @@ module _ {Q : (i j k : ℕ) → ℤ} (b : IsTricubic Q) (s n m l : ℕ) (f : Lis
   -- The search in a slice is that of the surface there.
   slice_finds : (k : ℕ) → k ≤ l → long_in_slice (volume_of Q 0) (pos s) n m k ≡ too_long s (n ∷ m ∷ []) (in_slice k)
   slice_finds k hk =
-      ap (λ v. long_steps v (pos s) n m) (slice_at b k) ∙
+      ap (λ v. long_steps v (pos s) n m) (slice_at_lem b k) ∙
       surface_finds (slice_bicubic b k) s n m (in_slice k) (λ i j hi hj. doubles i j k hi hj hk)
 
   v_far : {i j k : ℕ} → i ≤ n → j ≤ m → k < l →
@@ -241,7 +241,7 @@ volume_searchable {Q} {n} {m} {N = N} b r s n_least m_least n_most m_most = reco
   n_most = n_most;
   m_most = m_most;
   in_slice = λ k hk.
-      subst (λ v. StepsSearchable v N n m) (sym (slice_at b k))
+      subst (λ v. StepsSearchable v N n m) (sym (slice_at_lem b k))
       (steps_searchable (slice_bicubic b k) (slice_bounded r hk) s n_least m_least n_most m_most);
   to_next = λ k hk.
       subst (λ v. Searchable v N (suc m) (suc n)) (sym (steps_at b k))

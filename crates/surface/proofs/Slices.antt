@@ -1,16 +1,14 @@
 -- The machine's volume follows the values, from slice to slice, and its first differences along v follow theirs. A slice is a
 -- surface that follows the values of the slice.
-use mathlib.Core.Path.{◌≡◌, refl, sym, ◌∙◌, ap, fun_ext}
+use mathlib.Core.Path.{◌≡◌, sym, ◌∙◌, ap, fun_ext}
 use Prim.Native.Nat.{ℕ, suc, ◌≤◌, ◌<◌, zero-le}
-use native.Mathlib.Omega.{arith}
 use lib.Dec.{lit<}
-use lib.IntN.{ℤ, ◌-ℤ◌}
-use Rattle.cubic.specs.Blend.{samples, surface}
+use lib.IntN.{ℤ}
+use Rattle.cubic.specs.Blend.{samples}
 use Rattle.cubic.specs.Differences.{delta, differences_at, IsBicubic, IsTricubic}
 use Rattle.cubic.proofs.Rows.{row_delta}
 use Rattle.cubic.proofs.Across.{delta_same, delta_less, less_cubic, later_cubic, delta_cubic}
-use Rattle.surface.specs.declared.volume.Volume.{Volume}
-use Rattle.surface.specs.Surface.{surface_of, start_across, along_u, u_steps, Bounded}
+use Rattle.surface.specs.Surface.{surface_of, start_across, along_u, Bounded}
 use Rattle.surface.specs.Volume.{volume_of, start_volume, slice_of, next_volume, volume_at, along_v, VolumeRoom, VolumeBounded}
 use Rattle.surface.specs.Volume.{slice_at, v_steps}
 use Rattle.surface.proofs.Parts.{same_cubics, same_surfaces}
@@ -90,8 +88,8 @@ module _ {Q : (i j k : ℕ) → ℤ} (t : IsTricubic Q) where
       (surface_at_lem (across_bicubic 0) k) (surface_at_lem (across_bicubic 1) k)
       (surface_at_lem (across_bicubic 2) k) (surface_at_lem (across_bicubic 3) k)
 
-  pub slice_at : (k : ℕ) → slice_of (volume_at (volume_of Q 0) k) ≡ surface_of (slice_at Q k) 0
-  slice_at k = ap slice_of (volume_at_lem k) ∙ slice_of_lem Q k
+  pub slice_at_lem : (k : ℕ) → slice_of (volume_at (volume_of Q 0) k) ≡ surface_of (slice_at Q k) 0
+  slice_at_lem k = ap slice_of (volume_at_lem k) ∙ slice_of_lem Q k
 
   pub steps_at : (k : ℕ) → slice_of (along_v (volume_at (volume_of Q 0) k)) ≡ surface_of (slice_at (v_steps Q) k) 0
   steps_at k = ap (λ v. slice_of (along_v v)) (volume_at_lem k) ∙ ap slice_of (v_steps_of k) ∙ slice_of_lem (v_steps Q) k

@@ -1,23 +1,13 @@
 -- `some_long` meets its contract: no value that was passed is beyond 2N, and the first that is ends the search.
-use borrow.Author.Count.{below_more}
-use mathlib.Core.Path.{◌≡◌, refl, sym, ◌∙◌, ap}
+use mathlib.Core.Path.{◌≡◌}
 use mathlib.Core.Bool.{Bool, false}
-use Prim.Native.Nat.{ℕ, ◌+◌, ◌-◌, ◌<◌}
-use native.Mathlib.Numerals.{add-one}
-use native.Mathlib.Omega.{arith}
-use lib.Dec.{lit<}
+use Prim.Native.Nat.{ℕ, ◌-◌, ◌<◌}
 use lib.IntN.{ℤ}
-use mir.Syntax.{w64}
-use mir.Val.{to_z}
-use mir.Facts.{to_z-of_z}
 use Rattle.cubic.specs.declared.differences.Cubic.{Cubic}
-use Rattle.cubic.specs.Differences.{next_of, nexts}
+use Rattle.cubic.specs.Differences.{nexts}
 use Rattle.cubic.specs.Axis.{long_of}
-use Rattle.cubic.specs.Room.{Room}
-use Rattle.cubic.proofs.Fits.{read, held}
 use Rattle.surface.specs.declared.Surface.{Surface}
-use Rattle.surface.specs.Surface.{row_of, next_surface, surface_at, cubic_at, value_at}
-use Rattle.surface.proofs.Search.{found, nowhere}
+use Rattle.surface.specs.Surface.{row_of, surface_at, value_at}
 use Rattle.surface.proofs.some_long.Given as goal
 
 -- At row j of the surface s: no value of a row before it is beyond 2N.

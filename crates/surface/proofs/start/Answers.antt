@@ -10,7 +10,6 @@ use Rattle.cubic.proofs.Fits.{read}
 use Rattle.surface.specs.Surface.{StartsAcross}
 use Rattle.surface.proofs.Parts.{same_cubics, FieldsRead, fields_read}
 use Rattle.surface.proofs.start.Goals as goal
-use Rattle.surface.proofs.start.Goals.{Start}
 
 -- What is read back of a count and of four control values.
 record Read (m q0 q1 q2 q3 : ℤ) : Type 0 where
@@ -28,64 +27,50 @@ module _ {m q0 q1 q2 q3 : ℤ} (r : Read m q0 q1 q2 q3) where
       c ≡ differences_at (samples m q0 q1 q2 q3) 0
   started e = rw (r.count, r.first, r.second, r.third, r.fourth) at e
 
-module _ (c : Start) where
-  abbrev m : ℤ
-  m = c.args.m
+-- The four numbers of the cubics.
+module _ {m : ℤ} {c0 c1 c2 c3 : Cubic} (count : read m ≡ m) (p : StartsAcross m c0 c1 c2 c3) where
+  f0 : FieldsRead c0
+  f0 = fields_read p.rooms.0
 
-  count : read m ≡ m
-  count = to_z-of_z c.ranges.m
+  f1 : FieldsRead c1
+  f1 = fields_read p.rooms.1
 
-  f0 : FieldsRead c.args.c0
-  f0 = fields_read c.requires.rooms.0
+  f2 : FieldsRead c2
+  f2 = fields_read p.rooms.2
 
-  f1 : FieldsRead c.args.c1
-  f1 = fields_read c.requires.rooms.1
+  f3 : FieldsRead c3
+  f3 = fields_read p.rooms.3
 
-  f2 : FieldsRead c.args.c2
-  f2 = fields_read c.requires.rooms.2
-
-  f3 : FieldsRead c.args.c3
-  f3 = fields_read c.requires.rooms.3
-
-  values : Read m c.args.c0.value c.args.c1.value c.args.c2.value c.args.c3.value
+  values : Read m c0.value c1.value c2.value c3.value
   values = record { count = count; first = f0.value; second = f1.value; third = f2.value; fourth = f3.value }
 
-  firsts : Read m c.args.c0.d1 c.args.c1.d1 c.args.c2.d1 c.args.c3.d1
+  firsts : Read m c0.d1 c1.d1 c2.d1 c3.d1
   firsts = record { count = count; first = f0.d1; second = f1.d1; third = f2.d1; fourth = f3.d1 }
 
-  seconds : Read m c.args.c0.d2 c.args.c1.d2 c.args.c2.d2 c.args.c3.d2
+  seconds : Read m c0.d2 c1.d2 c2.d2 c3.d2
   seconds = record { count = count; first = f0.d2; second = f1.d2; third = f2.d2; fourth = f3.d2 }
 
-  thirds : Read m c.args.c0.d3 c.args.c1.d3 c.args.c2.d3 c.args.c3.d3
+  thirds : Read m c0.d3 c1.d3 c2.d3 c3.d3
   thirds = record { count = count; first = f0.d3; second = f1.d3; third = f2.d3; fourth = f3.d3 }
 
 pub start-requires : goal.start-requires
-start-requires c = let s = c in starts (values s) s.requires.value
+start-requires c = starts (values (to_z-of_z c.ranges.m) c.requires) c.requires.value
 
 pub start-requires-2 : goal.start-requires-2
-start-requires-2 c =
-    let s = c in starts (firsts s) s.requires.d1
+start-requires-2 c = starts (firsts (to_z-of_z c.ranges.m) c.requires) c.requires.d1
 
 pub start-requires-3 : goal.start-requires-3
-start-requires-3 c =
-    let s = c in
-    starts (seconds s) s.requires.d2
+start-requires-3 c = starts (seconds (to_z-of_z c.ranges.m) c.requires) c.requires.d2
 
 pub start-requires-4 : goal.start-requires-4
-start-requires-4 c =
-    let b = c in
-    let s = b in
-    starts (thirds s) s.requires.d3
+start-requires-4 c = starts (thirds (to_z-of_z c.ranges.m) c.requires) c.requires.d3
 
 pub returns : goal.returns
 returns c =
-    let fourth = c in
-    let third = fourth in
-    let second = third in
-    let first = second in
-    let s = first in
+    let n = to_z-of_z c.ranges.m in
+    let p = c.requires in
     same_cubics
-    (started (values s) first.start.ensures)
-    (started (firsts s) second.start-2.ensures)
-    (started (seconds s) third.start-3.ensures)
-    (started (thirds s) fourth.start-4.ensures)
+    (started (values n p) c.start.ensures)
+    (started (firsts n p) c.start-2.ensures)
+    (started (seconds n p) c.start-3.ensures)
+    (started (thirds n p) c.start-4.ensures)

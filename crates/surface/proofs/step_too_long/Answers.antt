@@ -1,17 +1,14 @@
 -- `step_too_long` meets its contract: some difference along t is beyond 2N, or some along u.
-use borrow.Author.Rules.{rules}
 use mathlib.Core.Path.{◌≡◌, refl, sym, ◌∙◌}
 use mathlib.Core.Bool.{Bool}
-use Prim.Native.Nat.{ℕ, suc}
+use Prim.Native.Nat.{ℕ}
 use native.Mathlib.Numerals.{add-one}
 use native.Mathlib.Omega.{arith}
 use lib.IntN.{ℤ}
 use mir.Facts.{to_z-of_z}
-use Rattle.cubic.proofs.Fits.{read}
 use Rattle.surface.specs.declared.Surface.{Surface}
-use Rattle.surface.specs.Surface.{along_t, along_u, some_long, long_steps, Searchable}
+use Rattle.surface.specs.Surface.{some_long, long_steps, Searchable}
 use Rattle.surface.proofs.step_too_long.Goals as goal
-use Rattle.surface.proofs.step_too_long.Goals.{After-some_long, After-some_long-else-some_long}
 
 -- With the surface, the scale and the counts as the code holds them.
 module _ {d e : Surface} {N M : ℤ} {rows rows' samples samples' : ℕ} (p : d ≡ e) (q : N ≡ M) (r : rows ≡ rows')
@@ -27,35 +24,25 @@ overflow_add-m c = record { fits = omega (arith, c.requires.m_most) }
 
 pub some_long-requires : goal.some_long-requires
 some_long-requires c =
-    let s = c in
-    can_search c.along_t.ensures (to_z-of_z s.ranges.scale) (add-one _) refl s.requires.along_t
+    can_search c.along_t.ensures (to_z-of_z c.ranges.scale) (add-one _) refl c.requires.along_t
 
 pub overflow_add-n : goal.overflow_add-n
 overflow_add-n c = record { fits = omega (arith, c.requires.n_most) }
 
--- What the search along t found, and along u.
-found-t : (c : After-some_long) → let s = c in
-    c.some_long.result ≡ some_long (along_t s.args.surface) s.args.scale (suc s.args.m) s.args.n
-found-t c =
-    let s = c in
-    searched c.along_t.ensures (to_z-of_z s.ranges.scale) (add-one _) refl c.some_long.ensures
-
 pub some_long-requires-else-some_long : goal.some_long-requires-else-some_long
 some_long-requires-else-some_long c =
-    let s = c in
-    can_search c.along_u.ensures (to_z-of_z s.ranges.scale) refl (add-one _) s.requires.along_u
-
-found-u : (c : After-some_long-else-some_long) → let s = c in
-    c.some_long-else-some_long.result ≡ some_long (along_u s.args.surface) s.args.scale s.args.m (suc s.args.n)
-found-u c =
-    let s = c in
-    searched c.along_u.ensures (to_z-of_z s.ranges.scale) refl (add-one _) c.some_long-else-some_long.ensures
+    can_search c.along_u.ensures (to_z-of_z c.ranges.scale) refl (add-one _) c.requires.along_u
 
 pub returns-then-some_long : goal.returns-then-some_long
 unfolding long_steps
-returns-then-some_long c = c.if-some_long.true ∙ sym (rw (sym (found-t c.before) ∙ c.if-some_long.true) refl)
+returns-then-some_long c =
+    let t = searched c.along_t.ensures (to_z-of_z c.ranges.scale) (add-one _) refl c.some_long.ensures in
+    c.if-some_long.true ∙ sym (rw (sym t ∙ c.if-some_long.true) refl)
 
 pub returns-else-some_long : goal.returns-else-some_long
 unfolding long_steps
 returns-else-some_long c =
-    let b = c in found-u c ∙ sym (rw (sym (found-t b.before) ∙ b.if-some_long.false) refl)
+    let t = searched c.along_t.ensures (to_z-of_z c.ranges.scale) (add-one _) refl c.some_long.ensures in
+    let u =
+    searched c.along_u.ensures (to_z-of_z c.ranges.scale) refl (add-one _) c.some_long-else-some_long.ensures in
+    u ∙ sym (rw (sym t ∙ c.if-some_long.false) refl)

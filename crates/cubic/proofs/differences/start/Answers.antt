@@ -15,10 +15,8 @@ use Rattle.cubic.specs.Room.{Each, Small, Startable}
 use Rattle.cubic.proofs.Fits.{Holds, read, literal, held, add, add_fits, mul, mul_fits}
 use Rattle.cubic.proofs.Closed.{coef3, coef2, coef1, coef0, start_differences}
 use Rattle.cubic.proofs.Bounds.{coef3_within, coef2_within, coef1_within, coef0_within, more_factors}
-use Rattle.cubic.proofs.differences.start.Reads as reads
-use Rattle.cubic.proofs.basis.coefficient.Reads as coefficient-reads
 use Rattle.cubic.proofs.differences.start.Goals as goal
-use Rattle.cubic.proofs.differences.start.Goals.{After-coefficient-a0, After-coefficient-a1, After-coefficient-a2, After-coefficient-a3, Start}
+use Rattle.cubic.proofs.differences.start.Goals.{After-coefficient-a0}
 
 -- The products of bounds that come up are at most L³Q or 120L²Q.
 record Bounds (L Q : ℕ) : Type 0 where
@@ -126,39 +124,27 @@ module _ {L Q : ℕ} {n a3 a2 a1 a0 N A3 A2 A1 A0 : ℤ} (h : Held L Q n a3 a2 a
 
 -- What the machine holds behind the four coefficients.
 module _ (c : After-coefficient-a0) where
-  abbrev begin : Start
-  begin = c.before
-
-  abbrev p : Startable begin.args.n begin.args.q0 begin.args.q1 begin.args.q2 begin.args.q3
-  p = begin.requires
+  abbrev p : Startable c.args.n c.args.q0 c.args.q1 c.args.q2 c.args.q3
+  p = c.requires
 
   abbrev of : (ℤ → ℤ → ℤ → ℤ → ℤ) → ℤ
-  of a = a begin.args.q0 begin.args.q1 begin.args.q2 begin.args.q3
+  of a = a c.args.q0 c.args.q1 c.args.q2 c.args.q3
 
-  abbrev after1 : After-coefficient-a3
-  after1 = c.before
-
-  abbrev after2 : After-coefficient-a2
-  after2 = c.before
-
-  abbrev after3 : After-coefficient-a1
-  after3 = c.before
-
-  state : Held p.limit p.size begin.args.n (of coef3) (of coef2) (of coef1) (of coef0)
-      (read begin.args.n)
-      (read after1.coefficient-a3.result)
-      (read after2.coefficient-a2.result)
-      (read after3.coefficient-a1.result)
+  state : Held p.limit p.size c.args.n (of coef3) (of coef2) (of coef1) (of coef0)
+      (read c.args.n)
+      (read c.coefficient-a3.result)
+      (read c.coefficient-a2.result)
+      (read c.coefficient-a1.result)
       (read c.coefficient-a0.result)
   state =
       let f = bounds p in
       let e = p.controls in
       record {
         room = f;
-        count = record { same = to_z-of_z begin.fits.n; size = p.count };
-        third = result (answer p _ after1.coefficient-a3.ensures) (coef3_within e) (omega arith);
-        second = result (answer p _ after2.coefficient-a2.ensures) (coef2_within e) (omega arith);
-        first = result (answer p _ after3.coefficient-a1.ensures) (coef1_within e) (omega arith);
+        count = record { same = to_z-of_z c.ranges.n; size = p.count };
+        third = result (answer p _ c.coefficient-a3.ensures) (coef3_within e) (omega arith);
+        second = result (answer p _ c.coefficient-a2.ensures) (coef2_within e) (omega arith);
+        first = result (answer p _ c.coefficient-a1.ensures) (coef1_within e) (omega arith);
         zeroth = result (answer p _ c.coefficient-a0.ensures) (coef0_within e) (omega arith);
       }
 

@@ -29,7 +29,6 @@ put_cell-requires c =
       at_in_bounds = omega (arith, s.requires.long);
     }
 
-
 pub loop-i-init : goal.loop-i-init
 loop-i-init c =
     let s = c in
@@ -52,7 +51,6 @@ put_cell-requires-in-loop-i c =
       byte_cell = holds_now (step_more l.steps t c.step-w.ensures) ByteCell l.room.cells;
       at_in_bounds = omega (arith, l.room.long, l.place);
     }
-
 
 pub loop-i-preserved : goal.loop-i-preserved
 loop-i-preserved c =

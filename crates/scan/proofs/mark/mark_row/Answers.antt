@@ -85,4 +85,3 @@ returns c =
       grid_after = l.invariant.fewer ∙ rw (m.mark_cell-new_cells.ensures.grid_after, p) one;
       grid_after_2 = rw (to_z-of_z s.ranges.scale, e) at (l.invariant.marks s.args.grid.now (cc));
     }
-

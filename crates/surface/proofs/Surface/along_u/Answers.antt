@@ -1,5 +1,4 @@
 -- `Surface::along_u` meets its contract: the first differences of each of the four cubics.
-use borrow.Author.Rules.{rules}
 use Rattle.surface.proofs.Parts.{same_cubics}
 use Rattle.surface.proofs.Surface.along_u.Goals as goal
 

@@ -1,5 +1,4 @@
 -- `Surface::next` meets its contract: equation 8 on each of the four cubics.
-use borrow.Author.Rules.{rules}
 use Rattle.surface.proofs.Parts.{same_cubics}
 use Rattle.surface.proofs.Surface.next.Goals as goal
 

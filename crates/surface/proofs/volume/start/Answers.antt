@@ -7,29 +7,26 @@ use Rattle.cubic.proofs.Fits.{read}
 use Rattle.surface.specs.Surface.{StartsAcross}
 use Rattle.surface.proofs.Parts.{same_surfaces}
 use Rattle.surface.proofs.volume.start.Goals as goal
-use Rattle.surface.proofs.volume.start.Goals.{Start}
 
 -- With the count as it is read back.
-module _ (c : Start) where
-  starts : {c0 c1 c2 c3 : Cubic} → StartsAcross c.args.l c0 c1 c2 c3 → StartsAcross (read c.args.l) c0 c1 c2 c3
-  starts s = rw (to_z-of_z c.ranges.l) s
+starts : {l : ℤ} {c0 c1 c2 c3 : Cubic} → read l ≡ l → StartsAcross l c0 c1 c2 c3 → StartsAcross (read l) c0 c1 c2 c3
+starts e s = rw e s
 
 pub start-requires : goal.start-requires
-start-requires c = starts c c.requires.value
+start-requires c = starts (to_z-of_z c.ranges.l) c.requires.value
 
 pub start-requires-2 : goal.start-requires-2
-start-requires-2 c = let s = c in starts s s.requires.d1
+start-requires-2 c = starts (to_z-of_z c.ranges.l) c.requires.d1
 
 pub start-requires-3 : goal.start-requires-3
-start-requires-3 c = let s = c in starts s s.requires.d2
+start-requires-3 c = starts (to_z-of_z c.ranges.l) c.requires.d2
 
 pub start-requires-4 : goal.start-requires-4
-start-requires-4 c = let s = c in starts s s.requires.d3
+start-requires-4 c = starts (to_z-of_z c.ranges.l) c.requires.d3
 
 pub returns : goal.returns
 returns c =
-    let s = c in
-    let count = to_z-of_z s.ranges.l in
+    let count = to_z-of_z c.ranges.l in
     same_surfaces
     (rw count at c.start.ensures)
     (rw count at c.start-2.ensures)

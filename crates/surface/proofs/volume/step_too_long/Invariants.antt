@@ -1,22 +1,11 @@
 -- `step_too_long` of a volume meets its contract: no difference that was passed is beyond 2N, and the first slice, or the first
 -- two, with one that is end the search.
-use borrow.Author.Count.{below_more}
-use borrow.Author.Rules.{rules}
-use mathlib.Core.Path.{◌≡◌, refl, sym, ◌∙◌, ap}
+use mathlib.Core.Path.{◌≡◌}
 use mathlib.Core.Bool.{Bool, false}
 use Prim.Native.Nat.{ℕ, ◌-◌, ◌≤◌, ◌<◌}
-use native.Mathlib.Numerals.{add-one}
-use native.Mathlib.Omega.{arith}
 use lib.IntN.{ℤ}
-use mir.Syntax.{w64}
-use mir.Val.{to_z}
-use mir.Facts.{to_z-of_z}
-use Rattle.cubic.specs.Differences.{nexts}
-use Rattle.cubic.proofs.Fits.{read}
 use Rattle.surface.specs.declared.volume.Volume.{Volume}
-use Rattle.surface.specs.Surface.{surface_at, long_steps}
-use Rattle.surface.specs.Volume.{slice_of, next_volume, volume_at, along_v, long_in_slice, long_to_next}
-use Rattle.surface.proofs.Search.{found_inside, found_between, found_nowhere}
+use Rattle.surface.specs.Volume.{volume_at, long_in_slice, long_to_next}
 use Rattle.surface.proofs.volume.step_too_long.Given as goal
 
 -- At slice k of the volume v: no difference in a slice before it, or from one before it to the next, is beyond 2N.
@@ -28,7 +17,7 @@ pub record AtSlice (v : Volume) (N : ℤ) (n m l : ℕ) (found : Bool) (rest : V
   pub passed_on : (b : ℕ) → b < k → long_to_next v N n m b ≡ false
 
 abbrev pub invariant-search : goal.invariant-search
-invariant-search l = AtSlice l.initial.rest l.l.scale l.l.n l.l.m l.l l.found l.rest l.k
+invariant-search l = AtSlice l.initial.rest l.scale l.n l.m l.l l.found l.rest l.k
 
 abbrev pub decreases-search : goal.decreases-search
 decreases-search l = l.l - l.k

@@ -1,6 +1,5 @@
 -- `Axis::settle` meets its contract: the sums of a move fit, and the tests are those of the definition.
 use mathlib.Core.Path.{◌≡◌, ap, ◌∙◌}
-use mathlib.Core.Logic.{⊎_elim}
 use mathlib.Core.Bool.{Bool, true, false}
 use Prim.Native.Nat.{◌+◌, ◌^◌}
 use borrow.Author.Rules.{rules}
@@ -14,6 +13,7 @@ use Rattle.cubic.specs.Axis.{settle_of}
 use Rattle.cubic.specs.Room.{Settles}
 use Rattle.cubic.proofs.Fits.{Holds, read, literal, held, add, sub, sub_fits, fitting}
 use Rattle.cubic.proofs.axis.Axis.settle.Goals as goal
+use Rattle.cubic.proofs.axis.Axis.settle.Goals.{then-rem-scale, else-rem-scale+then-rem-low, else-rem-scale+else-rem-low}
 
 -- What the machine holds.
 module _ {N h : ℤ} {a : Axis} (p : Settles N h a) where
@@ -74,41 +74,22 @@ module _ {N h : ℤ} {a : Axis} (p : Settles N h a) where
   unfolding settle_of
   stays e f t u = simp (e, f, d1, d2, d3, t, u)
 
-pub overflow_add-two : goal.overflow_add-two
-overflow_add-two c = let p = c.requires in search (rules, fitting)
-
-pub overflow_sub-low : goal.overflow_sub-low
-overflow_sub-low c = sub_fits (literal 0) (scale c.requires) (lit< tt)
-
-pub overflow_add-at : goal.overflow_add-at
-overflow_add-at c = let p = c.requires in search (rules, fitting)
-
-pub overflow_sub-rem : goal.overflow_sub-rem
-overflow_sub-rem c = let p = c.requires in search (rules, fitting)
-
-pub overflow_sub-at : goal.overflow_sub-at
-overflow_sub-at c = let p = c.requires in search (rules, fitting)
-
-pub overflow_add-rem : goal.overflow_add-rem
-overflow_add-rem c = let p = c.requires in search (rules, fitting)
-
 pub returns : goal.returns
 returns c =
     let p = c.requires in
-    ⊎_elim
-    (λ w.
-    goes_up p
-    (ap (to_z w64) w.1 ∙ (add (at p) (stride p) (lit< tt)).same)
-    (ap (to_z w64) w.2 ∙ (sub (value p) (two p) (lit< tt)).same)
-    (above p w.0.taken))
-    (⊎_elim
-    (λ w.
-    goes_down p
-    (ap (to_z w64) w.2 ∙ (sub (at p) (stride p) (lit< tt)).same)
-    (ap (to_z w64) w.3 ∙ (add (value p) (two p) (lit< tt)).same)
-    (above p w.0.left) (below p w.1.taken))
-    (λ w.
-    stays p
-    (ap (to_z w64) w.2 ∙ (at p).same) (ap (to_z w64) w.3 ∙ (value p).same)
-    (above p w.0.left) (below p w.1.left)))
-    c.if-rem-scale.branch
+    elim c.if-rem-scale.branch [
+      | then-rem-scale w ↦
+          goes_up p
+          (w.at-is ∙ (add (at p) (stride p) (lit< tt)).same)
+          (w.rem-is ∙ (sub (value p) (two p) (lit< tt)).same)
+          (above p w.if-rem-scale.true)
+      | else-rem-scale+then-rem-low w ↦
+          goes_down p
+          (w.at-is ∙ (sub (at p) (stride p) (lit< tt)).same)
+          (w.rem-is ∙ (add (value p) (two p) (lit< tt)).same)
+          (above p w.if-rem-scale.false) (below p w.if-rem-low.true)
+      | else-rem-scale+else-rem-low w ↦
+          stays p
+          (w.at-is ∙ (at p).same) (w.rem-is ∙ (value p).same)
+          (above p w.if-rem-scale.false) (below p w.if-rem-low.false)
+    ]

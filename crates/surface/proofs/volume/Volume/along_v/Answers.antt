@@ -1,5 +1,4 @@
 -- `Volume::along_v` meets its contract: the first differences of each of the four surfaces.
-use borrow.Author.Rules.{rules}
 use Rattle.surface.proofs.Parts.{same_surfaces}
 use Rattle.surface.proofs.volume.Volume.along_v.Goals as goal
 

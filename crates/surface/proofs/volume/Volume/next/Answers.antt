@@ -1,5 +1,4 @@
 -- `Volume::next` meets its contract: the next row of each of the four surfaces.
-use borrow.Author.Rules.{rules}
 use Rattle.surface.proofs.Parts.{same_surfaces}
 use Rattle.surface.proofs.volume.Volume.next.Goals as goal
 

@@ -1,5 +1,4 @@
 -- `Volume::slice` meets its contract: the row of each of the four surfaces.
-use borrow.Author.Rules.{rules}
 use Rattle.surface.proofs.Parts.{same_cubics}
 use Rattle.surface.proofs.volume.Volume.slice.Goals as goal
 
