@@ -6,7 +6,7 @@ use native.Mathlib.Omega.{arith}
 use mathlib.Core.Bool.{Bool, ◌&&◌}
 use lib.IntN.{ℤ, pos, negsuc}
 use lib.Dec.{T, eqb, ltb, leb, eqb→eq}
-use lib.Ieee.{Float, fin, up, down, binary32, fits}
+use lib.Ieee.{Float, nan, inf, fin, up, down, binary32, fits}
 use lib.Ieee.Fits.{and_l, up_pos, down_pos}
 use lib.Ieee.Exact.{HasValue}
 use Rattle.channel.proofs.HalfWay.{exponent_zero}
@@ -74,6 +74,12 @@ not_zero a b c x y p q e = let g = mul-pos (mul-pos (zero-lt-suc a) p) q in omeg
 -- An f32 with the sign s and the value n / k is unique.
 pub value_unique : (x y : Float) (s : Bool) (n k : ℕ) → 0 < k → T (fits binary32 x) → T (fits binary32 y)
     → HasValue x s n k → HasValue y s n k → x ≡ y
+value_unique nan y s n k K p q h j = elim h [ ]
+value_unique (inf _) y s n k K p q h j = elim h [ ]
+value_unique (fin t zero e) nan s n k K p q h j = elim j [ ]
+value_unique (fin t zero e) (inf _) s n k K p q h j = elim j [ ]
+value_unique (fin t (suc m) e) nan s n k K p q h j = elim j [ ]
+value_unique (fin t (suc m) e) (inf _) s n k K p q h j = elim j [ ]
 value_unique (fin t zero e) (fin u zero g) s n k K p q h j =
     λ i. fin ((h.0 ∙ sym j.0) i) zero ((fits_zero t e p ∙ sym (fits_zero u g q)) i)
 value_unique (fin t zero e) (fin u (suc m) g) s n k K p q h j =

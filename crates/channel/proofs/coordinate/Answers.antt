@@ -1,9 +1,7 @@
 -- `coordinate` meets its contract: the channel is raised, and the bits of the raised one give the coordinate.
 use mathlib.Core.Path.{sym, subst}
-use mathlib.Core.Logic.{⊎_elim}
 use Prim.Native.Nat.{◌+◌, ◌-◌, ◌*◌, ◌/◌, ◌≤◌}
 use native.Mathlib.Omega.{arith}
-use borrow.Author.Rules.{rules}
 use lib.Dec.{T, lit≤}
 use lib.Pow.{shr_le}
 use lib.Ieee.{binary32, of_bits, to_bits, le, fits}
@@ -13,7 +11,7 @@ use Rattle.channel.proofs.Bits.{fraction_field}
 use Rattle.channel.proofs.Raised.{Raised, raised_small, raised_large, field_ge, field_le, field_is}
 use Rattle.channel.proofs.FromBits.{product_le, coordinate_below, raised_coordinate}
 use Rattle.channel.proofs.coordinate.Goals as goal
-use Rattle.channel.proofs.coordinate.Goals.{Joined-v}
+use Rattle.channel.proofs.coordinate.Goals.{Joined-v, then-v, else-v}
 
 -- What the channel is raised to. That the code's constant is from 1/128, and in cell 0 at every side, is computed.
 raised : (c : Joined-v) → Raised c.args.v c.if-v.raised
@@ -21,9 +19,10 @@ unfolding of_bits le fits in_range
 raised c =
     let s = c in
     let v = s.args.v in
-    ⊎_elim (λ w. raised_small v w.1 (lit≤ tt) tt tt (lit≤ tt) s.requires.t w.0.taken)
-    (λ w. rw w.1 (raised_large v _ w.0.left (lit≤ tt) tt (subst T (sym s.well-formed.1.0.1) tt) s.requires.t))
-    c.if-v.branch
+    elim c.if-v.branch [
+      | then-v w ↦ raised_small v w.raised-is (lit≤ tt) tt tt (lit≤ tt) s.requires.t w.if-v.true
+      | else-v w ↦ rw w.raised-is (raised_large v _ w.if-v.false (lit≤ tt) tt (subst T (sym s.well_formed.1.0.1) tt) s.requires.t)
+    ]
 
 pub returns : goal.returns
 returns c =

@@ -17,8 +17,8 @@ returns c =
     let b = c.args.b in
     let s = add binary32 a b in
     let e : mul binary32 s (of_bits binary32 0x3f00_0000) ≡ mul binary32 s half32 = rw half_bits in
-    let f = subst T (sym c.well-formed.0.1) tt in
-    let g = subst T (sym c.well-formed.1.0.1) tt in
+    let f = subst T (sym c.well_formed.0.1) tt in
+    let g = subst T (sym c.well_formed.1.0.1) tt in
     let z = half_between a b f g c.requires.t c.requires.t_2 in
     record {
       formula = e;

@@ -1,7 +1,6 @@
 -- `number` meets its contract: 31 is tried first, and a finite channel that is not accepted is outside.
 use mathlib.Core.Path.{sym, ◌∙◌}
 use mathlib.Core.List.{[], ◌∷◌}
-use borrow.Author.Rules.{rules}
 use Rattle.decide.specs.Refusal.{◌when◌}
 use Rattle.decide.proofs.Refusal.{first_applies, first_passes}
 use Rattle.channel.specs.Channel.{infinite_or_nan, outside}

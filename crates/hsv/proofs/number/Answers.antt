@@ -2,7 +2,6 @@
 use mathlib.Core.Path.{sym, ap, ◌∙◌}
 use mathlib.Core.Bool.{not}
 use mathlib.Core.List.{[], ◌∷◌}
-use borrow.Author.Rules.{rules}
 use Rattle.decide.specs.Refusal.{◌when◌}
 use Rattle.decide.proofs.Refusal.{first_applies, first_passes}
 use Rattle.channel.specs.Channel.{infinite_or_nan}

@@ -1,6 +1,5 @@
 -- `channel_verdict` meets its contract: an accepted channel has no refusal.
 use mathlib.Core.Path.{sym, ◌∙◌, subst}
-use borrow.Author.Rules.{rules}
 use lib.Dec.{T}
 use Rattle.channel.proofs.Range.{range_accepted}
 use Rattle.swatch.proofs.channel_verdict.Goals as goal

@@ -1,6 +1,5 @@
 -- `channels` meets its contract: a grey stands for three equal channels, and a hue for those of its row.
 use mathlib.Core.Path.{sym, ap, ◌∙◌}
-use borrow.Author.Rules.{rules}
 use Rattle.hsv.proofs.InRange.{hsv_in_range}
 use Rattle.swatch.specs.Swatch.{channels_of}
 use Rattle.swatch.proofs.Range.{accepted_as}

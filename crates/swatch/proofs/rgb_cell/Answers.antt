@@ -1,5 +1,4 @@
 -- `rgb_cell` meets its contract: red, green, blue become x, y, z.
-use borrow.Author.Rules.{rules}
 use Rattle.swatch.proofs.rgb_cell.Goals as goal
 
 pub returns : goal.returns

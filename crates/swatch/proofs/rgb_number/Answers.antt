@@ -1,9 +1,9 @@
 -- `rgb_number` meets its contract: the channels before the first that is not accepted have no refusal.
-use mathlib.Core.Path.{sym, ◌∙◌, subst}
+use mathlib.Core.Bool.{Bool, true}
+use mathlib.Core.Path.{◌≡◌, sym, ◌∙◌, subst}
 use mathlib.Core.List.{List, ◌++◌}
-use borrow.Author.Rules.{rules}
-use borrow.Author.Tests.{not-true, not-false}
 use lib.Dec.{T}
+use lib.Ieee.{Float}
 use Rattle.decide.specs.Refusal.{Rule}
 use Rattle.decide.proofs.Truth.{true_of}
 use Rattle.decide.proofs.Refusal.{append_refused, append_passes}
@@ -11,7 +11,6 @@ use Rattle.channel.specs.declared.Rgb.{Rgb}
 use Rattle.channel.specs.Channel.{in_range, channel_refusals}
 use Rattle.channel.proofs.Range.{range_accepted}
 use Rattle.swatch.proofs.rgb_number.Goals as goal
-use Rattle.swatch.proofs.rgb_number.Goals.{Else-not-is_accepted, Else-not-is_accepted-2}
 
 -- The rules of each channel.
 module _ (c : Rgb) where
@@ -29,44 +28,36 @@ returns-then-not-is_accepted c =
     let w = c.args.c in
     append_refused (reds w) (greens w ++ blues w) c.number.ensures
 
--- Past the first test red is accepted.
-red : (c : Else-not-is_accepted) → T (in_range c.args.c.red)
-red c =
-    let a = c.is_accepted in
-    subst T (sym (not-false a.result c.if-not-is_accepted.false) ∙ a.ensures) tt
-
--- Past the second test green is accepted.
-green : (c : Else-not-is_accepted-2) → T (in_range c.args.c.green)
-green c =
-    let a = c.is_accepted-2 in
-    subst T (sym (not-false a.result c.if-not-is_accepted-2.false) ∙ a.ensures) tt
+-- Past a channel's test it is accepted.
+passed : (v : Float) {r : Bool} → r ≡ true → r ≡ in_range v → T (in_range v)
+passed v t e = subst T (sym t ∙ e) tt
 
 pub returns-then-not-is_accepted-2 : goal.returns-then-not-is_accepted-2
 returns-then-not-is_accepted-2 c =
     let w = c.args.c in
-    append_passes (reds w) (greens w ++ blues w) (range_accepted w.red (red c.before))
+    append_passes (reds w) (greens w ++ blues w) (range_accepted w.red (passed w.red c.if-not-is_accepted.false c.is_accepted.ensures))
     ∙ append_refused (greens w) (blues w) c.number-then-not-is_accepted-2.ensures
 
 pub returns : goal.returns
 returns c =
     let w = c.args.c in
-    append_passes (reds w) (greens w ++ blues w) (range_accepted w.red (red c.before))
-    ∙ append_passes (greens w) (blues w) (range_accepted w.green (green c.before))
+    append_passes (reds w) (greens w ++ blues w) (range_accepted w.red (passed w.red c.if-not-is_accepted.false c.is_accepted.ensures))
+    ∙ append_passes (greens w) (blues w) (range_accepted w.green (passed w.green c.if-not-is_accepted-2.false c.is_accepted-2.ensures))
     ∙ c.number-2.ensures
 
 pub number-requires : goal.number-requires
 number-requires c =
     let a = c.is_accepted in
-    sym a.ensures ∙ not-true a.result c.if-not-is_accepted.true
+    sym a.ensures ∙ c.if-not-is_accepted.true
 
 pub number-requires-then-not-is_accepted-2 : goal.number-requires-then-not-is_accepted-2
 number-requires-then-not-is_accepted-2 c =
     let a = c.is_accepted-2 in
-    sym a.ensures ∙ not-true a.result c.if-not-is_accepted-2.true
+    sym a.ensures ∙ c.if-not-is_accepted-2.true
 
 pub number-requires-2 : goal.number-requires-2
 number-requires-2 c =
     let s = c in
-    let r = true_of (in_range s.args.c.red) (red c.before) in
-    let g = true_of (in_range s.args.c.green) (green c) in
+    let r = true_of (in_range s.args.c.red) (passed s.args.c.red c.if-not-is_accepted.false c.is_accepted.ensures) in
+    let g = true_of (in_range s.args.c.green) (passed s.args.c.green c.if-not-is_accepted-2.false c.is_accepted-2.ensures) in
     rw (r, g) at s.requires

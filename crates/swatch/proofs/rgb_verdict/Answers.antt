@@ -1,6 +1,5 @@
 -- `rgb_verdict` meets its contract: three accepted channels have no refusal, and others the first one's.
 use mathlib.Core.Path.{sym, ◌∙◌}
-use borrow.Author.Rules.{rules}
 use Rattle.swatch.proofs.Range.{rgb_accepted}
 use Rattle.swatch.proofs.rgb_verdict.Goals as goal
 

@@ -1,7 +1,6 @@
 -- `swatch_verdict` meets its contract: a colour has its channels' refusals, a grey those of its one
 -- channel, and a hue those of hue, saturation and value.
 use mathlib.Core.Path.{sym, ap, ◌∙◌}
-use borrow.Author.Rules.{rules}
 use Rattle.decide.specs.Refusal.{first_that}
 use Rattle.swatch.specs.Swatch.{swatch_refusals}
 use Rattle.swatch.proofs.Range.{grey_first}
