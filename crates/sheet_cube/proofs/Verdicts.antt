@@ -31,12 +31,12 @@ pub record WholeLine (fields : ℕ) (rest : List ℕ) : Type 0 where
   pub whole : length (take (5 * fields + 1) rest) ≡ 5 * fields + 1
 
 module _ (fields : ℕ) (rest : List ℕ) {r : Bool} (e : r ≡ not (is_wrong fields (first_line rest))) where
-  pub is_wrong_lem : not r ≡ true → is_wrong fields (first_line rest) ≡ true
-  is_wrong_lem t = sym (twice (is_wrong fields (first_line rest))) ∙ ap not (sym e) ∙ t
+  pub is_wrong_lem : r ≡ false → is_wrong fields (first_line rest) ≡ true
+  is_wrong_lem f = sym (twice (is_wrong fields (first_line rest))) ∙ ap not (sym e ∙ f)
 
-  pub is_whole : not r ≡ false → WholeLine fields rest
-  is_whole f =
-      let right = sym (twice (is_wrong fields (first_line rest))) ∙ ap not (sym e) ∙ f in
+  pub is_whole : r ≡ true → WholeLine fields rest
+  is_whole t =
+      let right = sym (twice (is_wrong fields (first_line rest))) ∙ ap not (sym e ∙ t) in
       let l = line_length fields (first_line rest) right in
       let same : take (5 * fields + 1) rest ≡ first_line rest = ap (λ n. take n rest) (sym l) ∙ sym (first_prefix rest) in
       record { right = right; taken = same; whole = ap length same ∙ l }

@@ -1,82 +1,77 @@
 -- `judge_side` meets its contract: the side, or the first number of line 1's order that applies.
 use borrow.Author.Rules.{rules}
 use mathlib.Core.Path.{◌≡◌, sym, ◌∙◌}
-use mathlib.Core.Bool.{false}
+use mathlib.Core.Bool.{Bool, true, not}
 use mathlib.Core.List.{List}
-use Prim.Native.Nat.{ℕ, ◌<◌}
+use Prim.Native.Nat.{ℕ, ◌≤◌, ◌<◌}
 use native.Mathlib.Omega.{arith}
+use lib.ListN.{take}
+use Rattle.decide.specs.Refusal.{accepted, refused, first_that}
 use Rattle.sheet_lines.specs.Read.{first_line, read_field}
-use Rattle.sheet.specs.Line.{field, is_wrong}
+use Rattle.sheet.specs.Line.{field, number, is_wrong}
+use Rattle.sheet.specs.Sheet.{side_order}
 use Rattle.sheet_lines.proofs.Fields.{read_most}
 use Rattle.sheet_cube.proofs.Verdicts.{WholeLine, is_wrong_lem, is_whole, side_wrong, side_bad, side_read, side_out_lem, side_large}
 use Rattle.sheet_cube.proofs.Verdicts.{side_good}
 use Rattle.sheet_cube.proofs.judge.judge_side.Goals as goal
-use Rattle.sheet_cube.proofs.judge.judge_side.Goals.{After-number_at-side, Else-not-is_line, In_default-1}
 
 pub returns-then-not-is_line : goal.returns-then-not-is_line
 returns-then-not-is_line c = side_wrong _ (is_wrong_lem 1 _ c.is_line.ensures c.if-not-is_line.true)
 
--- Past the test of the line.
-module _ (c : Else-not-is_line) where
-  abbrev input : List ℕ
-  input = c.args.input.now
-
-  first : WholeLine 1 input
-  first = is_whole 1 input c.is_line.ensures c.if-not-is_line.false
-
 pub slice_bounds-number_at-end : goal.slice_bounds-number_at-end
-slice_bounds-number_at-end c = sym (first c.before).whole
+slice_bounds-number_at-end c = sym (is_whole 1 _ c.is_line.ensures c.if-not-is_line.false).whole
 
 pub number_at-side-requires : goal.number_at-side-requires
-number_at-side-requires c = omega (arith, (first c.before).whole)
+number_at-side-requires c = omega (arith, (is_whole 1 _ c.is_line.ensures c.if-not-is_line.false).whole)
 
--- The number read is that of line 1's field.
-module _ (c : After-number_at-side) where
+-- Past the test of the line, the number read is that of line 1's field.
+module _ (input : List ℕ) (n : ℕ) {r : Bool} (whole : r ≡ not (is_wrong 1 (first_line input))) (t : r ≡ true)
+    (e : n ≡ read_field (field (take 6 input) 0)) where
   abbrev line : List ℕ
-  line = first_line (input c.before)
+  line = first_line input
 
-  is_read : c.number_at-side.result ≡ read_field (field line 0)
-  is_read = rw (first c.before).taken at c.number_at-side.ensures
+  first : WholeLine 1 input
+  first = is_whole 1 input whole t
 
-  right : is_wrong 1 line ≡ false
-  right = (first c.before).right
+  is_read : n ≡ read_field (field line 0)
+  is_read = rw first.taken at e
+
+  is_bad : n ≡ 100000 → first_that (side_order line) ≡ refused 42
+  is_bad b = side_bad line first.right (sym is_read ∙ b)
+
+  -- Any other number is below 100000.
+  module _ (other : n ≡ 100000 → ⊥) where
+    below : read_field (field line 0) < 100000
+    below = omega (arith, is_read, read_most (field line 0))
+
+    is_good : 2 ≤ n → n ≤ 40 → (first_that (side_order line) ≡ accepted) × (n ≡ number line 0)
+    is_good a b = (
+      side_good line first.right below (omega (arith, is_read)) (omega (arith, is_read)),
+      is_read ∙ side_read line first.right below,
+    )
+
+    is_large : 2 ≤ n → n ≤ 64 → 40 < n → first_that (side_order line) ≡ refused 43
+    is_large a b d = side_large line first.right below (omega (arith, is_read)) (omega (arith, is_read)) (omega (arith, is_read))
+
+    is_out : ((2 ≤ n) × (n ≤ 64) → ⊥) → first_that (side_order line) ≡ refused 11
+    is_out out = side_out_lem line first.right below (rw is_read at out)
 
 pub returns-in-100000 : goal.returns-in-100000
-returns-in-100000 c = let r = c in side_bad (line r) (right r) (sym (is_read r) ∙ c.in-100000.is)
-
--- Any other number is below 100000.
-module _ (c : In_default-1) where
-  abbrev r : After-number_at-side
-  r = c.before
-
-  below : read_field (field (line r) 0) < 100000
-  below =
-      let n = c.in_default-1.rest.1 in
-      omega (arith, is_read r, n, read_most (field (line r) 0))
+returns-in-100000 c = is_bad _ _ c.is_line.ensures c.if-not-is_line.false c.number_at-side.ensures c.in-100000.is
 
 pub returns-in-2-to-40 : goal.returns-in-2-to-40
 returns-in-2-to-40 c =
-    let n = c in
-    let v = is_read (r n) in (
-      side_good (line (r n)) (right (r n)) (below n) (omega (arith, v, c.if-side-lt2.false)) (omega (arith, v, c.if-side-lt41.true)),
-      v ∙ side_read (line (r n)) (right (r n)) (below n),
-    )
+    is_good _ _ c.is_line.ensures c.if-not-is_line.false c.number_at-side.ensures (λ e. omega arith) (omega arith) (omega arith)
 
 pub returns-in-41-to-64 : goal.returns-in-41-to-64
 returns-in-41-to-64 c =
-    let n = c in
-    let v = is_read (r n) in
-    side_large (line (r n)) (right (r n)) (below n) (omega (arith, v, c.if-side-lt2.false)) (omega (arith, v, c.if-side-lt65.true))
-    (omega (arith, v, c.if-side-lt41.false))
+    is_large _ _ c.is_line.ensures c.if-not-is_line.false c.number_at-side.ensures (λ e. omega arith) (omega arith) (omega arith)
+    (omega arith)
 
 pub returns-in_default : goal.returns-in_default
 returns-in_default c =
-    let n = c in
-    let v = is_read (r n) in
-    side_out_lem (line (r n)) (right (r n)) (below n) (λ p. omega (arith, v, p, c.if-side-lt2.true))
+    is_out _ _ c.is_line.ensures c.if-not-is_line.false c.number_at-side.ensures (λ e. omega arith) (λ p. omega arith)
 
 pub returns-in_default-2 : goal.returns-in_default-2
 returns-in_default-2 c =
-    let n = c in
-    let v = is_read (r n) in
-    side_out_lem (line (r n)) (right (r n)) (below n) (λ p. omega (arith, v, p, c.if-side-lt65.false))
+    is_out _ _ c.is_line.ensures c.if-not-is_line.false c.number_at-side.ensures (λ e. omega arith) (λ p. omega arith)

@@ -1,10 +1,7 @@
 -- `blanks` meets its contract: what stands after the blanks of the field stands after those from byte i on.
 use borrow.Author.Rules.{rules}
-use mathlib.Core.Path.{◌≡◌, refl, sym, ◌∙◌}
-use Prim.Native.Nat.{◌-◌, ◌≤◌}
+use mathlib.Core.Path.{refl, sym, ◌∙◌}
 use native.Mathlib.Omega.{arith}
-use lib.ListN.{length, drop}
-use Rattle.sheet.specs.Field.{after_blanks}
 use Rattle.sheet_lines.proofs.Fields.{blank_passes, byte_stays, blanks_end}
 use Rattle.sheet_lines.proofs.field.blanks.Goals as goal
 
@@ -19,7 +16,6 @@ returns-then-field-i-ne32 c =
       field_value = sym (l.invariant.1 ∙ byte_stays _ l.i c.loop-i-test.true c.if-field-i-ne32.true);
     }
 
-
 pub loop-i-preserved : goal.loop-i-preserved
 loop-i-preserved c =
     let l = c.loop-i in
@@ -32,4 +28,3 @@ returns c =
       upper_bound = omega arith;
       field_value = sym (l.invariant.1 ∙ blanks_end _ l.i c.loop-i-test.false);
     }
-

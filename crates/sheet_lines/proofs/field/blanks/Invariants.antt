@@ -1,11 +1,8 @@
 -- `blanks` meets its contract: what stands after the blanks of the field stands after those from byte i on.
-use borrow.Author.Rules.{rules}
-use mathlib.Core.Path.{◌≡◌, refl, sym, ◌∙◌}
+use mathlib.Core.Path.{◌≡◌}
 use Prim.Native.Nat.{◌-◌, ◌≤◌}
-use native.Mathlib.Omega.{arith}
 use lib.ListN.{length, drop}
 use Rattle.sheet.specs.Field.{after_blanks}
-use Rattle.sheet_lines.proofs.Fields.{blank_passes, byte_stays, blanks_end}
 use Rattle.sheet_lines.proofs.field.blanks.Given as goal
 
 abbrev pub invariant-loop-i : goal.invariant-loop-i

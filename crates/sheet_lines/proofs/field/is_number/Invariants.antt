@@ -1,13 +1,8 @@
 -- `is_number` meets its contract: without a leading zero, the digits decide, and those before byte i are digits.
-use borrow.Author.Rules.{rules}
-use borrow.Author.Tests.{eqb-true, eqb-false, not-true, not-false}
-use mathlib.Core.Logic.{⊎_elim}
-use mathlib.Core.Path.{◌≡◌, sym, ◌∙◌}
+use mathlib.Core.Path.{◌≡◌}
 use Prim.Native.Nat.{◌-◌, ◌≤◌}
-use native.Mathlib.Omega.{arith}
-use lib.ListN.{length, get_or, drop}
+use lib.ListN.{length, drop}
 use Rattle.sheet.specs.Field.{are_digits, is_number}
-use Rattle.sheet_lines.proofs.Fields.{byte_tested, digits_end, no_digit, no_leading_zero, leading_zero}
 use Rattle.sheet_lines.proofs.field.is_number.Given as goal
 
 abbrev pub invariant-loop-i : goal.invariant-loop-i

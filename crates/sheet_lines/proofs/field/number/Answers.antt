@@ -1,5 +1,4 @@
 -- `number` meets its contract: no digit is a bad field, and others stand for its value.
-use borrow.Author.Rules.{rules}
 use mathlib.Core.Path.{sym, ◌∙◌, ap}
 use lib.ListN.{length}
 use Rattle.sheet.specs.Field.{decimal, value_of}
@@ -12,7 +11,9 @@ returns-then-part-eq0 c =
     sym (bad_read f (no_digits_bad f (ap length (sym c.digits-part.ensures) ∙ c.if-part-eq0.true)))
 
 pub value-requires : goal.value-requires
-value-requires c = rw c.digits-part.ensures (digits_few _)
+value-requires c =
+    let few = digits_few c.args.field.now in
+    record { digits_len_bound = rw c.digits-part.ensures few.0; digits_value = rw c.digits-part.ensures few.1 }
 
 pub returns : goal.returns
 unfolding value_of

@@ -10,39 +10,29 @@ use lib.ListN.{length, get_or, drop}
 use Rattle.sheet.specs.Field.{are_digits, decimal}
 use Rattle.sheet_lines.proofs.Fields.{next_digit, digit_read, read_end, read_before, few_below}
 use Rattle.sheet_lines.proofs.field.value.Goals as goal
-use Rattle.sheet_lines.proofs.field.value.Goals.{In-loop-i, Start}
 
 -- With a digit more the number is still below 100000.
-module _ (c : In-loop-i  where
-  abbrev s : Start 
-  s = c.before
-
-  abbrev ds : List ℕ
-  ds = s.args.digits.now
-
-  abbrev n : ℕ
-  n = c.loop-i.n
-
-  abbrev i : ℕ
-  i = c.loop-i.i
-
-  with_digit : 10 * n + (get_or ds i 0 - 48) < 100000
-  with_digit =
-      let p = s.requires in
-      let r = digit_read ds i c.loop-i-test.true n in
-      omega (arith, c.loop-i.invariant.1, few_below ds p.0 p.1, read_before (10 * n + (get_or ds i 0 - 48)) (drop (i + 1) ds))
+with_digit : (ds : List ℕ) (n i : ℕ) → length ds ≤ 5 → are_digits ds ≡ true → i < length ds → decimal 0 ds ≡ decimal n (drop i ds) →
+    10 * n + (get_or ds i 0 - 48) < 100000
+with_digit ds n i few digits h e =
+    let r = digit_read ds i h n in
+    omega (arith, few_below ds few digits, read_before (10 * n + (get_or ds i 0 - 48)) (drop (i + 1) ds))
 
 pub loop-i-init : goal.loop-i-init
 loop-i-init c = (search rules, refl, c.requires.digits_value)
 
 pub overflow_mul-n : goal.overflow_mul-n
-overflow_mul-n c = record { fits = omega (arith, with_digit c) }
+overflow_mul-n c =
+    let p = c.requires in
+    record { fits = omega (arith, with_digit _ _ _ p.digits_len_bound p.digits_value c.loop-i-test.true c.loop-i.invariant.1) }
 
 pub overflow_sub-digits : goal.overflow_sub-digits
 overflow_sub-digits c = (next_digit _ _ c.loop-i-test.true c.loop-i.invariant.2).0
 
 pub overflow_add-n : goal.overflow_add-n
-overflow_add-n c = record { fits = omega (arith, with_digit c.before, c.wide.ensures) }
+overflow_add-n c =
+    let p = c.requires in
+    record { fits = omega (arith, with_digit _ _ _ p.digits_len_bound p.digits_value c.loop-i-test.true c.loop-i.invariant.1, c.wide.ensures) }
 
 pub loop-i-preserved : goal.loop-i-preserved
 loop-i-preserved c =

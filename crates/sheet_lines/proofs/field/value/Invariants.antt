@@ -1,14 +1,10 @@
 -- `value` meets its contract: the digits from byte i on, after what was read before them, stand for the whole number,
 -- which is below 100000.
-use borrow.Author.Rules.{rules}
-use mathlib.Core.Path.{◌≡◌, refl, sym, ◌∙◌}
+use mathlib.Core.Path.{◌≡◌}
 use mathlib.Core.Bool.{true}
-use mathlib.Core.List.{List}
-use Prim.Native.Nat.{ℕ, ◌+◌, ◌-◌, ◌*◌, ◌≤◌, ◌<◌}
-use native.Mathlib.Omega.{arith}
-use lib.ListN.{length, get_or, drop}
+use Prim.Native.Nat.{◌-◌, ◌≤◌}
+use lib.ListN.{length, drop}
 use Rattle.sheet.specs.Field.{are_digits, decimal}
-use Rattle.sheet_lines.proofs.Fields.{next_digit, digit_read, read_end, read_before, few_below}
 use Rattle.sheet_lines.proofs.field.value.Given as goal
 
 abbrev pub invariant-loop-i : goal.invariant-loop-i

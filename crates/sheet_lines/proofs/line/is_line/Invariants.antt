@@ -1,19 +1,15 @@
 -- `is_line` meets its contract: after i bytes, `broken` says whether there is a line feed among them.
-use borrow.Author.Rules.{rules}
-use borrow.Author.Tests.{eq-eqb, ne_eqb, not-true, not-false}
-use mathlib.Core.Logic.{⊎_elim}
-use mathlib.Core.Path.{◌≡◌, refl, sym, ◌∙◌, ap, subst}
-use mathlib.Core.Bool.{Bool, true, false, not, or-true, or-false, not-not}
+use borrow.Author.Tests.{eq-eqb, ne_eqb}
+use mathlib.Core.Path.{◌≡◌, sym, subst}
+use mathlib.Core.Bool.{Bool, true, false, or-true, or-false}
 use mathlib.Core.List.{List}
 use Prim.Native.Nat.{ℕ, ◌+◌, ◌*◌, ◌-◌, ◌≤◌, ◌<◌}
 use native.Mathlib.Numerals.{add-one}
-use native.Mathlib.Omega.{arith}
-use lib.Dec.{T, eqb, eqb→eq}
+use lib.Dec.{T, eqb}
 use lib.ListN.{length, get_or}
 use Rattle.decide.specs.Some.{some_below}
 use Rattle.decide.proofs.Truth.{false_iff, equal}
 use Rattle.decide.proofs.Some.{some_below_lem}
-use Rattle.sheet_lines.proofs.Lines.{short_rest, broken_line, byte_decides}
 use Rattle.sheet_lines.proofs.line.is_line.Given as goal
 
 -- Some byte below i is a line feed.

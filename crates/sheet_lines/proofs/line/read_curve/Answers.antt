@@ -2,11 +2,11 @@
 use borrow.Author.Rules.{rules}
 use borrow.Author.Count.{below_none, below_more}
 use mathlib.Core.Path.{◌≡◌, refl, sym, ◌∙◌, ap}
-use mathlib.Core.Bool.{true≢false}
+use mathlib.Core.Bool.{Bool, true≢false}
 use mathlib.Core.List.{List}
-use Prim.Native.Nat.{ℕ, ◌+◌, ◌-◌, ◌≤◌, ◌<◌}
+use Prim.Native.Nat.{ℕ}
 use native.Mathlib.Omega.{arith}
-use lib.ListN.{length, get_or, length-set}
+use lib.ListN.{length-set}
 use lib.Seq.{get_or-set_same, get_or-set_other}
 use Rattle.sheet.specs.Line.{field}
 use Rattle.sheet.specs.Sheet.{mark_out}
@@ -14,20 +14,15 @@ use Rattle.sheet_lines.specs.Read.{read_field}
 use Rattle.sheet_lines.proofs.Fields.{read_most}
 use Rattle.sheet_lines.proofs.Fits.{mark_in, Fitting, fits_reads, fit_line, unfit_line}
 use Rattle.sheet_lines.proofs.line.read_curve.Goals as goal
-use Rattle.sheet_lines.proofs.line.read_curve.Goals.{After-is_mark_out}
 
 -- The mark is tested as it is read.
-module _ (c : After-is_mark_out  where
-  abbrev line : List ℕ
-  line = c.args.line.now
-
-  tested : c.is_mark_out.result ≡ mark_out (read_field (field line 0))
-  tested = c.is_mark_out.ensures ∙ ap mark_out c.number_at-mark.ensures
+tested : (line : List ℕ) (m : ℕ) (t : Bool) → m ≡ read_field (field line 0) → t ≡ mark_out m → t ≡ mark_out (read_field (field line 0))
+tested line m t read e = e ∙ ap mark_out read
 
 pub returns-then-is_mark_out : goal.returns-then-is_mark_out
 returns-then-is_mark_out c =
     c.unfit.ensures ∙ unfit_line _
-    (λ f. true≢false (sym c.if-is_mark_out.true ∙ tested c.before ∙ f.mark))
+    (λ f. true≢false (sym c.if-is_mark_out.true ∙ tested _ _ _ c.number_at-mark.ensures c.is_mark_out.ensures ∙ f.mark))
 
 pub returns-then-steps-eq100000 : goal.returns-then-steps-eq100000
 returns-then-steps-eq100000 c =
@@ -56,20 +51,17 @@ loop-k-preserved c =
 
 pub overflow_cast-curve : goal.overflow_cast-curve
 overflow_cast-curve c =
-    let m = c in
-    let w = (mark_in m.number_at-mark.result).0 (sym m.is_mark_out.ensures ∙ c.if-is_mark_out.false) in
+    let w = (mark_in c.number_at-mark.result).0 (sym c.is_mark_out.ensures ∙ c.if-is_mark_out.false) in
     record { fits = omega arith }
 
 pub returns : goal.returns
 returns c =
     let l = c.loop-k in
-    let n = c in
-    let m = n in
-    let line = line m in
+    let line = c.args.line.now in
     let f : Fitting line = record {
-      mark = sym (tested m) ∙ n.if-is_mark_out.false;
-      steps = omega (arith, n.number_at-steps.ensures, read_most (field line 1));
+      mark = sym (tested _ _ _ c.number_at-mark.ensures c.is_mark_out.ensures) ∙ c.if-is_mark_out.false;
+      steps = omega (arith, c.number_at-steps.ensures, read_most (field line 1));
       bytes = λ k h. (l.invariant.2 k (omega arith)).0;
     } in
-    fit_line line l.points n.number_at-steps.result m.number_at-mark.result ((fits_reads line).1 f)
-    m.number_at-mark.ensures n.number_at-steps.ensures l.invariant.1 (λ k h. (l.invariant.2 k (omega arith)).1)
+    fit_line line l.points c.number_at-steps.result c.number_at-mark.result ((fits_reads line).1 f)
+    c.number_at-mark.ensures c.number_at-steps.ensures l.invariant.1 (λ k h. (l.invariant.2 k (omega arith)).1)

@@ -1,18 +1,9 @@
 -- `read_curve` meets its contract: the coordinates before field k + 2 are bytes and stand in their places.
-use borrow.Author.Rules.{rules}
-use borrow.Author.Count.{below_none, below_more}
-use mathlib.Core.Path.{◌≡◌, refl, sym, ◌∙◌, ap}
-use mathlib.Core.Bool.{true≢false}
-use mathlib.Core.List.{List}
+use mathlib.Core.Path.{◌≡◌}
 use Prim.Native.Nat.{ℕ, ◌+◌, ◌-◌, ◌≤◌, ◌<◌}
-use native.Mathlib.Omega.{arith}
-use lib.ListN.{length, get_or, length-set}
-use lib.Seq.{get_or-set_same, get_or-set_other}
+use lib.ListN.{length, get_or}
 use Rattle.sheet.specs.Line.{field}
-use Rattle.sheet.specs.Sheet.{mark_out}
 use Rattle.sheet_lines.specs.Read.{read_field}
-use Rattle.sheet_lines.proofs.Fields.{read_most}
-use Rattle.sheet_lines.proofs.Fits.{mark_in, Fitting, fits_reads, fit_line, unfit_line}
 use Rattle.sheet_lines.proofs.line.read_curve.Given as goal
 
 abbrev pub invariant-loop-k : goal.invariant-loop-k

@@ -1,5 +1,4 @@
 -- `refusal_of` meets its contract: the tests are those of the definition, on what is read.
-use borrow.Author.Rules.{rules}
 use mathlib.Core.Path.{◌∙◌}
 use Rattle.sheet_lines.proofs.Fits.{refusal_read}
 use Rattle.sheet_lines.proofs.line.refusal_of.Goals as goal

@@ -1,14 +1,9 @@
 -- `some_bad` meets its contract: no field that was passed is bad, and the first that is ends the search.
-use borrow.Author.Rules.{rules}
-use borrow.Author.Count.{below_none, below_more}
-use mathlib.Core.Path.{◌≡◌, sym, ◌∙◌}
+use mathlib.Core.Path.{◌≡◌}
 use mathlib.Core.Bool.{false}
 use Prim.Native.Nat.{ℕ, ◌-◌, ◌≤◌, ◌<◌}
-use native.Mathlib.Omega.{arith}
 use Rattle.sheet.specs.Field.{is_bad}
 use Rattle.sheet.specs.Line.{field}
-use Rattle.sheet_lines.proofs.Fields.{read_most, good_below, bad_is}
-use Rattle.sheet_lines.proofs.Fits.{fields_good, field_bad}
 use Rattle.sheet_lines.proofs.line.some_bad.Given as goal
 
 abbrev pub invariant-loop-k : goal.invariant-loop-k
