@@ -1,51 +1,38 @@
 -- `refusal` meets its contract: the tests are made in the order's turn.
-use borrow.Author.Tests.{lt-ltb, le-ltb, ltb-false, eq-eqb, ne_eqb}
+use borrow.Author.Tests.{lt-ltb, le-ltb, eq-eqb, ne_eqb}
 use mathlib.Core.Path.{◌≡◌}
 use mathlib.Core.Bool.{true, false}
-use mathlib.Core.Logic.{⊎_elim}
-use Prim.Native.Nat.{◌≤◌}
-use native.Mathlib.Nat.{mul-le-mul}
-use native.Mathlib.Omega.{arith}
+use Prim.Native.Nat.{ℕ, ◌≤◌}
 use Rattle.decide.specs.Refusal.{first_that}
 use Rattle.cube.specs.Cube.{side_out}
 use Rattle.sheet.specs.Part.{text_order}
 use Rattle.sheet_text.proofs.refusal.Goals as goal
-use Rattle.sheet_text.proofs.refusal.Goals.{Else-side-gt64, Joined-then-side-lt2}
-
--- The side is outside 2 to 64.
-outside : (c : Joined-then-side-lt2) → side_out c.args.side ≡ true
-unfolding side_out
-outside c =
-    let side = c.args.side in
-    ⊎_elim (λ w. simp (lt-ltb side 2 w.taken)) (λ w. simp (le-ltb side 2 w.0.left, w.1.taken)) c.then-side-lt2.branch
+use Rattle.sheet_text.proofs.refusal.Goals.{then-side-lt2-via-then-side-lt2, then-side-lt2-via-else-side-lt2+then-side-gt64}
 
 -- The side is from 2 to 64.
-inside : (c : Else-side-gt64) → side_out c.args.side ≡ false
+inside : (side : ℕ) → 2 ≤ side → side ≤ 64 → side_out side ≡ false
 unfolding side_out
-inside c = simp (le-ltb c.args.side 2 c.if-side-lt2.false, c.if-side-gt64.false)
+inside side least most = simp (le-ltb side 2 least, le-ltb 64 side most)
 
 pub returns-then-side-lt2 : goal.returns-then-side-lt2
-unfolding first_that text_order
-returns-then-side-lt2 c = simp (outside c)
-
--- So its square and its cube are small.
-at-most-64 : (c : Else-side-gt64) → c.args.side ≤ 64
-at-most-64 c = ltb-false _ _ c.if-side-gt64.false
-
-pub overflow_mul-s : goal.overflow_mul-s
-overflow_mul-s c = let m = at-most-64 c in omega (arith, mul-le-mul m m)
-
-pub overflow_mul-s-2 : goal.overflow_mul-s-2
-overflow_mul-s-2 c = let m = at-most-64 c in omega (arith, mul-le-mul (mul-le-mul m m) m)
+unfolding first_that text_order side_out
+returns-then-side-lt2 c =
+    let side = c.args.side in
+    elim c.then-side-lt2.branch [
+      | then-side-lt2-via-then-side-lt2 w ↦ simp (lt-ltb side 2 w.if-side-lt2.true)
+      | then-side-lt2-via-else-side-lt2+then-side-gt64 w ↦ simp (le-ltb side 2 w.if-side-lt2.false, lt-ltb 64 side w.if-side-gt64.true)
+    ]
 
 pub returns-then-cube-s : goal.returns-then-cube-s
 unfolding first_that text_order
-returns-then-cube-s c = simp (inside c.before, ne_eqb _ _ c.if-cube-s.true)
+returns-then-cube-s c = simp (inside _ c.if-side-lt2.false c.if-side-gt64.false, ne_eqb _ _ c.if-cube-s.true)
 
 pub returns-then-short : goal.returns-then-short
 unfolding first_that text_order
-returns-then-short c = simp (inside c.before, eq-eqb _ _ c.if-cube-s.false, c.if-short.true)
+returns-then-short c =
+    simp (inside _ c.if-side-lt2.false c.if-side-gt64.false, eq-eqb _ _ c.if-cube-s.false, c.if-short.true)
 
 pub returns-else-short : goal.returns-else-short
 unfolding first_that text_order
-returns-else-short c = simp (inside c.before, eq-eqb _ _ c.if-cube-s.false, c.if-short.false)
+returns-else-short c =
+    simp (inside _ c.if-side-lt2.false c.if-side-gt64.false, eq-eqb _ _ c.if-cube-s.false, c.if-short.false)

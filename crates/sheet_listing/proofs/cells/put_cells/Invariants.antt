@@ -71,7 +71,7 @@ module _ {S : ℕ} {cube : List ℕ} {first n : ℕ} {text₀ : List ℕ} {start
   ahead = omega (arith, here.x_in)
 
   -- The cells are of one row, and there is room for a line for each.
-  pub marks : List ℕ
+  unfoldable pub marks : List ℕ
   marks = take (stop - p) (drop p cube)
 
   pub length_marks : length marks ≡ stop - p
