@@ -1,5 +1,5 @@
 -- `count_moves` meets its contract: after i steps the axis is at sample i, and the moves up to it are counted.
-use Rattle.std.proofs.Common.{◌≡◌, ℕ, suc, ◌+◌, ◌-◌, ◌<◌, ◌≤◌, Bool, List, length, get_or, pos, sym, refl, ap, ◌∙◌, subst, ap₂, add-one, arith, lit<, lit≤, rules}
+use Rattle.std.proofs.Common.{◌≡◌, ℕ, suc, ◌+◌, ◌-◌, ◌*◌, ◌<◌, ◌≤◌, Bool, List, length, get_or, ℤ, pos, sym, refl, ap, ◌∙◌, subst, ap₂, add-one, arith, lit<, lit≤, rules}
 use mir.Val.{bool_byte}
 use Rattle.integers.proofs.Magnitude.{within_pos}
 use Rattle.cube.specs.Cube.{Axis, x_axis, y_axis, z_axis, Cell}
@@ -26,90 +26,78 @@ use Rattle.path.specs.Step.{moves_next}
 use Rattle.path.proofs.OfCurve as along
 use Rattle.path.proofs.Legs.{counts_move}
 use Rattle.path.proofs.Stands.{moved_test}
-use Rattle.path.proofs.list.count_moves.Invariants.{cells_to, more, none}
+use Rattle.path.proofs.list.count_moves.Invariants.{SoFar, cells_to, more, none}
 use Rattle.path.proofs.list.count_moves.Goals as goal
-use Rattle.path.proofs.list.count_moves.Goals.{At-loop-i, Start}
 
-twelve : (s : Start  → length s.args.curve.points ≡ 12
-twelve s = search rules
+module _ {S : ℕ} (c : Curve) (twelve : length c.points ≡ 12) (d : Drawable S (curve_of c)) {scale : ℤ}
+    (n-is : scale ≡ pos (c.steps * c.steps * c.steps)) where
+  scale_is : read scale ≡ pos (scale_of (curve_of c))
+  scale_is = (scale_held (drawable_in_limits c twelve d) n-is).same
 
-drawable : (s : Start  → Drawable s.args.side (curve_of s.args.curve)
-drawable s = (check_accepted _ _).0 s.requires.curve_value
+  -- Sample by sample.
+  room : {a i : ℕ} {m : machine.Axis} {moves : ℕ} → a < 3 → SoFar c a i m moves → Steps (read scale) (pos 1) m
+  room {a = a} h s =
+      let x = axis_numbered a h in
+      rw (scale_is, ← list_stride_is x.0) (axis_steps (list_row c twelve d) x.0 s.within (s.at x.0 x.1))
 
 pub cubed-scale-requires : goal.cubed-scale-requires
-cubed-scale-requires c = (drawable c).count_most 0 (lit< tt)
+cubed-scale-requires c = ((check_accepted _ _).0 c.requires.curve_value).count_most 0 (lit< tt)
 
 pub start_axis-axis-requires : goal.start_axis-axis-requires
 start_axis-axis-requires c = record {
-      in_limits = drawable_in_limits _ (twelve c.before) (drawable c.before);
-      a_bound = c.requires.a_bound;
-      small_stride = within_pos (lit≤ tt);
-    }
-
+  in_limits = drawable_in_limits _ (search rules) ((check_accepted _ _).0 c.requires.curve_value);
+  a_bound = c.requires.a_bound;
+  small_stride = within_pos (lit≤ tt);
+}
 
 pub loop-i-init : goal.loop-i-init
-loop-i-init c = rw c.start_axis-axis.ensures (none _ (twelve c.before) (drawable c.before) _)
-
--- Sample by sample.
-module _ (l : At-loop-i  where
-  abbrev start : Start 
-  start = l.before
-
-  scale_is : read l.cubed-scale.result ≡ pos (scale_of (curve_of start.args.curve))
-  scale_is = (scale_held (drawable_in_limits _ (twelve start) (drawable start)) l.cubed-scale.ensures).same
-
-  room : Steps (read l.cubed-scale.result) (pos 1) l.loop-i.axis
-  room =
-      let x = axis_numbered start.args.a start.requires.a_bound in
-      rw (scale_is, ← list_stride_is x.0)
-      (axis_steps (list_row _ (twelve start) (drawable start)) x.0 l.loop-i.invariant.within (l.loop-i.invariant.at x.0 x.1))
+loop-i-init c = rw c.start_axis-axis.ensures (none _ (search rules) ((check_accepted _ _).0 c.requires.curve_value) _)
 
 pub moves-moved-requires : goal.moves-moved-requires
 moves-moved-requires c =
-    let l = c in
+    let n = c.args.curve in
+    let twelve : length n.points ≡ 12 = search rules in
+    let d = (check_accepted _ _).0 c.requires.curve_value in
     record {
-      size = scale_of (curve_of (start l).args.curve);
-      is = scale_is l;
-      small = scale_small (drawable_in_limits _ (twelve (start l)) (drawable (start l)));
-      cubic = (room l).cubic;
+      size = scale_of (curve_of n);
+      is = scale_is n twelve d c.cubed-scale.ensures;
+      small = scale_small (drawable_in_limits n twelve d);
+      cubic = (room n twelve d c.cubed-scale.ensures c.requires.a_bound c.loop-i.invariant).cubic;
     }
 
 pub advance-axis-requires : goal.advance-axis-requires
 advance-axis-requires c = record {
-      steps = room c.before;
-      moved_value = c.moves-moved.ensures;
-    }
-
+  steps =
+      room c.args.curve (search rules) ((check_accepted _ _).0 c.requires.curve_value) c.cubed-scale.ensures c.requires.a_bound
+      c.loop-i.invariant;
+  moved_value = c.moves-moved.ensures;
+}
 
 pub overflow_add-moves : goal.overflow_add-moves
-overflow_add-moves c =
-    let v = c in
-    let l = v in
-    record {
-      fits = omega (
-        arith,
-        (counted v.moves-moved.result).1,
-        l.loop-i.invariant.few,
-        l.loop-i.invariant.within,
-        (drawable (start l)).count_most 0 (lit< tt),
-      );
-    }
+overflow_add-moves c = record {
+  fits = omega (
+    arith,
+    (counted c.moves-moved.result).1,
+    c.loop-i.invariant.few,
+    c.loop-i.invariant.within,
+    ((check_accepted _ _).0 c.requires.curve_value).count_most 0 (lit< tt),
+  );
+}
 
 pub loop-i-preserved : goal.loop-i-preserved
 loop-i-preserved c =
-    let v = c in
-    let l = v in
-    rw add-one
-    (more _ (twelve (start l)) (drawable (start l)) l.loop-i.invariant (search rules) (rw (scale_is l) at c.advance-axis.ensures)
-    (rw (scale_is l) at v.moves-moved.ensures))
+    let n = c.args.curve in
+    let twelve : length n.points ≡ 12 = search rules in
+    let d = (check_accepted _ _).0 c.requires.curve_value in
+    let e = scale_is n twelve d c.cubed-scale.ensures in
+    rw add-one (more n twelve d c.loop-i.invariant (search rules) (rw e at c.advance-axis.ensures) (rw e at c.moves-moved.ensures))
 
 pub returns : goal.returns
 returns c =
-    let l = c in
-    let n = l.args.curve in
-    let e : l.loop-i.i ≡ n.steps = omega (arith, l.loop-i.invariant.within, c.loop-i-test.false) in
+    let n = c.args.curve in
+    let e : c.loop-i.i ≡ n.steps = omega (arith, c.loop-i.invariant.within, c.loop-i-test.false) in
     record {
       are = λ x f.
-          l.loop-i.invariant.are x f ∙ ap (λ i. over_steps (move_of x) (cells_to n i)) e ∙
+          c.loop-i.invariant.are x f ∙ ap (λ i. over_steps (move_of x) (cells_to n i)) e ∙
           ap (over_steps (move_of x)) (sym (along.all_cells n.steps n.points n.mark n.choice));
     }

@@ -1,5 +1,5 @@
 -- `list_cells` meets its contract: after i steps the walker stands at sample i, and the path up to there is listed.
-use Rattle.std.proofs.Common.{◌≡◌, ℕ, suc, ◌+◌, ◌-◌, ◌*◌, ◌<◌, ◌≤◌, Bool, List, [], ◌++◌, length, drop, pos, sym, refl, ap, ◌∙◌, subst, append_assoc, add-one, arith, lit<, length-append, rules}
+use Rattle.std.proofs.Common.{◌≡◌, ℕ, suc, ◌+◌, ◌-◌, ◌*◌, ◌<◌, ◌≤◌, Bool, List, [], ◌++◌, length, drop, ℤ, pos, sym, refl, ap, ◌∙◌, subst, append_assoc, add-one, arith, lit<, length-append, rules}
 use lib.Seq.{sets, length-sets}
 use Rattle.cube.specs.Cube.{Axis, x_axis, y_axis, z_axis, Cell}
 use Rattle.drawing.specs.Object.{offset}
@@ -12,7 +12,7 @@ use Rattle.cubic.specs.Room.{Steps}
 use Rattle.cubic.proofs.Fits.{read}
 use Rattle.scan.specs.declared.walker.Walker.{Walker}
 use Rattle.scan.specs.Walker.{axis_of, stride_of, list_strides, cell_of_walker, coordinates, ByteCell}
-use Rattle.scan.proofs.Samples.{At, along, list_small}
+use Rattle.scan.proofs.Samples.{At, along, list_stride_is}
 use Rattle.curve.specs.declared.Curve.{Curve}
 use Rattle.curve.specs.Curve.{curve_of}
 use Rattle.curve.specs.Machine.{doubled_along}
@@ -55,7 +55,7 @@ module _ {S : ℕ} (c : Curve) (twelve : length c.points ≡ 12) (d : Drawable S
   -- Sample 0.
   pub begins : {w : Walker} {len : ℕ} → AtSample g 0 w → 3 * path_length (curve_of c) ≤ len → ByteCell w × (3 ≤ len)
   begins t h =
-      let size = curves.path-length c.steps c.points c.mark c.choice in
+      let size = curves.path_length_lem c.steps c.points c.mark c.choice in
       (stands_byte d.side_most (inside g 0 (omega arith)) (stands g (omega arith) t), omega (arith, size, h))
 
   pub begun : (list : List ℕ) {w : Walker} → AtSample g 0 w → 3 * path_length (curve_of c) ≤ length list →
@@ -70,6 +70,22 @@ module _ {S : ℕ} (c : Curve) (twelve : length c.points ≡ 12) (d : Drawable S
           stands_cell d.side_most (inside g 0 (omega arith)) (stands g (omega arith) t),
         ) (first_listed (cell c 0) list (begins t h).1);
   }
+
+  -- What a call asks for, and what it says, with the scale that the code holds.
+  module _ {scale : ℤ} (n-is : scale ≡ pos (c.steps * c.steps * c.steps)) where
+    step_is : (a : Axis) (m : machine.Axis) {r : machine.Axis} → r ≡ step_of (read scale) (read (stride_of list_strides a)) m →
+        r ≡ step_of (N c) (pos 1) m
+    step_is a m e = rw list_stride_is at (stepped g n-is refl a m e)
+
+    tells_move : (m : machine.Axis) {t : Bool} → t ≡ moves_next (read scale) m → t ≡ moves_next (N c) m
+    tells_move m e = tells g {h = list_strides} n-is refl m e
+
+    module _ {i : ℕ} {w : Walker} {list₀ list : List ℕ} {cells : ℕ} (s : SoFar c list₀ i w list cells) where
+      pub may_ask : (a : Axis) → Moving (read scale) (axis_of w a)
+      may_ask a = may_move g {h = list_strides} n-is refl a s.within s.at
+
+      pub may_step : (a : Axis) → Steps (read scale) (read (stride_of list_strides a)) (axis_of w a)
+      may_step a = room g n-is refl a s.within s.at
 
   -- One step more, axis by axis.
   module _ {i : ℕ} {w : Walker} {list₀ list : List ℕ} {cells : ℕ} (s : SoFar c list₀ i w list cells) (l : i < c.steps) where
@@ -112,55 +128,77 @@ module _ {S : ℕ} (c : Curve) (twelve : length c.points ≡ 12) (d : Drawable S
     room_x = room_before with_x (move y_axis after_x to) room_y
 
     -- The three legs.
-    module _ {x : machine.Axis} {tx : Bool} (ex : x ≡ step_of (N c) (pos 1) w.x) (mx : tx ≡ moves_next (N c) w.x) where
-      abbrev walker_x : Walker
-      walker_x = record { x = x; y = w.y; z = w.z }
+    module _ {scale : ℤ} (n-is : scale ≡ pos (c.steps * c.steps * c.steps)) where
+      module _ {x : machine.Axis} {tx : Bool} (sx : x ≡ step_of (read scale) (read (stride_of list_strides x_axis)) w.x)
+          (ax : tx ≡ moves_next (read scale) w.x) where
+        ex : x ≡ step_of (N c) (pos 1) w.x
+        ex = step_is n-is x_axis w.x sx
 
-      asks_x : Asks tx walker_x list cells
-      asks_x =
-          leg_asks x_axis from to d.side_most (inside_x g l s.at) (at_x g l s.at ex) (tells_x g l s.at ex mx) s.listed room_x
+        mx : tx ≡ moves_next (N c) w.x
+        mx = tells_move n-is w.x ax
 
-      module _ {listX : List ℕ} {cellsX : ℕ} (saysX : Says tx walker_x list cells listX cellsX) where
-        listed_x : Listed list₀ with_x listX cellsX
-        listed_x =
-            leg_listed x_axis from to d.side_most (inside_x g l s.at) (at_x g l s.at ex) (tells_x g l s.at ex mx) s.listed
-            room_x saysX
+        abbrev walker_x : Walker
+        walker_x = record { x = x; y = w.y; z = w.z }
 
-        module _ {y : machine.Axis} {ty : Bool} (ey : y ≡ step_of (N c) (pos 1) w.y) (my : ty ≡ moves_next (N c) w.y) where
-          abbrev walker_y : Walker
-          walker_y = record { x = x; y = y; z = w.z }
+        pub asks_x : Asks tx walker_x list cells
+        asks_x =
+            leg_asks x_axis from to d.side_most (inside_x g l s.at) (at_x g l s.at ex) (tells_x g l s.at ex mx) s.listed room_x
 
-          asks_y : Asks ty walker_y listX cellsX
-          asks_y =
-              leg_asks y_axis after_x to d.side_most (inside_y g l s.at) (at_y g l s.at ex ey) (tells_y g l s.at ex ey my)
-              listed_x room_y
+        module _ {listX : List ℕ} {cellsX : ℕ} (saysX : Says tx walker_x list cells listX cellsX) where
+          listed_x : Listed list₀ with_x listX cellsX
+          listed_x =
+              leg_listed x_axis from to d.side_most (inside_x g l s.at) (at_x g l s.at ex) (tells_x g l s.at ex mx) s.listed
+              room_x saysX
 
-          module _ {listY : List ℕ} {cellsY : ℕ} (saysY : Says ty walker_y listX cellsX listY cellsY) where
-            listed_y : Listed list₀ with_y listY cellsY
-            listed_y =
-                leg_listed y_axis after_x to d.side_most (inside_y g l s.at) (at_y g l s.at ex ey) (tells_y g l s.at ex ey my)
-                listed_x room_y saysY
+          module _ {y : machine.Axis} {ty : Bool} (sy : y ≡ step_of (read scale) (read (stride_of list_strides y_axis)) w.y)
+              (ay : ty ≡ moves_next (read scale) w.y) where
+            ey : y ≡ step_of (N c) (pos 1) w.y
+            ey = step_is n-is y_axis w.y sy
 
-            module _ {z : machine.Axis} {tz : Bool} (ez : z ≡ step_of (N c) (pos 1) w.z) (mz : tz ≡ moves_next (N c) w.z) where
-              abbrev walker_z : Walker
-              walker_z = record { x = x; y = y; z = z }
+            my : ty ≡ moves_next (N c) w.y
+            my = tells_move n-is w.y ay
 
-              asks_z : Asks tz walker_z listY cellsY
-              asks_z =
-                  leg_asks z_axis after_y to d.side_most (inside_z g l s.at) (at_z g l s.at ex ey ez)
-                  (tells_z g l s.at ex ey ez mz) listed_y room_z
+            abbrev walker_y : Walker
+            walker_y = record { x = x; y = y; z = w.z }
 
-              more : {listZ : List ℕ} {cellsZ : ℕ} → Says tz walker_z listY cellsY listZ cellsZ →
-                  SoFar c list₀ (suc i) walker_z listZ cellsZ
-              more {listZ} {cellsZ} saysZ = record {
-                within = l;
-                at = at_next_sample g l s.at ex ey ez;
-                room = s.room;
-                listed =
-                    subst (λ ps. Listed list₀ ps listZ cellsZ) (sym all)
-                    (leg_listed z_axis after_y to d.side_most (inside_z g l s.at) (at_z g l s.at ex ey ez)
-                    (tells_z g l s.at ex ey ez mz) listed_y room_z saysZ);
-              }
+            pub asks_y : Asks ty walker_y listX cellsX
+            asks_y =
+                leg_asks y_axis after_x to d.side_most (inside_y g l s.at) (at_y g l s.at ex ey) (tells_y g l s.at ex ey my)
+                listed_x room_y
+
+            module _ {listY : List ℕ} {cellsY : ℕ} (saysY : Says ty walker_y listX cellsX listY cellsY) where
+              listed_y : Listed list₀ with_y listY cellsY
+              listed_y =
+                  leg_listed y_axis after_x to d.side_most (inside_y g l s.at) (at_y g l s.at ex ey) (tells_y g l s.at ex ey my)
+                  listed_x room_y saysY
+
+              module _ {z : machine.Axis} {tz : Bool} (sz : z ≡ step_of (read scale) (read (stride_of list_strides z_axis)) w.z)
+                  (az : tz ≡ moves_next (read scale) w.z) where
+                ez : z ≡ step_of (N c) (pos 1) w.z
+                ez = step_is n-is z_axis w.z sz
+
+                mz : tz ≡ moves_next (N c) w.z
+                mz = tells_move n-is w.z az
+
+                abbrev walker_z : Walker
+                walker_z = record { x = x; y = y; z = z }
+
+                pub asks_z : Asks tz walker_z listY cellsY
+                asks_z =
+                    leg_asks z_axis after_y to d.side_most (inside_z g l s.at) (at_z g l s.at ex ey ez)
+                    (tells_z g l s.at ex ey ez mz) listed_y room_z
+
+                pub more : {listZ : List ℕ} {cellsZ : ℕ} → Says tz walker_z listY cellsY listZ cellsZ →
+                    SoFar c list₀ (suc i) walker_z listZ cellsZ
+                more {listZ} {cellsZ} saysZ = record {
+                  within = l;
+                  at = at_next_sample g l s.at ex ey ez;
+                  room = s.room;
+                  listed =
+                      subst (λ ps. Listed list₀ ps listZ cellsZ) (sym all)
+                      (leg_listed z_axis after_y to d.side_most (inside_z g l s.at) (at_z g l s.at ex ey ez)
+                      (tells_z g l s.at ex ey ez mz) listed_y room_z saysZ);
+                }
 
 -- The whole path.
 pub done : {c : Curve} {list₀ list : List ℕ} {i n : ℕ} {w : Walker} → SoFar c list₀ i w list n → i ≡ c.steps →
@@ -171,7 +209,7 @@ unfolding path_length
 done {c} {list₀} {i = i} t e g p q =
     let all : path (cells_to c i) ≡ path (cells (curve_of c)) =
     ap (λ k. path (cells_to c k)) e ∙ ap path (sym (curves.all_cells c.steps c.points c.mark c.choice)) in
-    let size = curves.path-length c.steps c.points c.mark c.choice in
+    let size = curves.path_length_lem c.steps c.points c.mark c.choice in
     let k : ℕ = 3 * path_length (curve_of c) in (
       t.listed.count ∙ ap length all,
       t.listed.front ∙ ap (λ ps. bytes ps ++ drop (3 * length ps) list₀) all ∙
@@ -179,7 +217,7 @@ done {c} {list₀} {i = i} t e g p q =
     )
 
 abbrev pub invariant-loop-i : goal.invariant-loop-i
-invariant-loop-i l = SoFar l.curve l.initial.list l.i (record { l.x = l.x; l.y = l.y; l.z = l.z }) l.list l.cells
+invariant-loop-i l = SoFar l.curve l.initial.list l.i (record { x = l.x; y = l.y; z = l.z }) l.list l.cells
 
 abbrev pub decreases-loop-i : goal.decreases-loop-i
 decreases-loop-i l = l.curve.steps - l.i

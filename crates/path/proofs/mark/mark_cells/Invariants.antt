@@ -81,7 +81,8 @@ pub asked : {S : ℕ} {p : Cell} {w : Walker} {len : ℕ} → S ≤ 64 → Insid
 asked {S} {p} most at s v = (stands_has_place most at s, rw (stands_place most at s, v) (place_below S p at))
 
 abbrev pub invariant-loop-i : goal.invariant-loop-i
-invariant-loop-i l = SoFar l.side l.curve l.choice l.initial.grid l.initial.drawn l.i (record { l.x = l.x; l.y = l.y; l.z = l.z }) l.grid l.drawn
+invariant-loop-i l =
+    SoFar l.side l.curve l.choice l.initial.grid l.initial.drawn l.i (record { x = l.x; y = l.y; z = l.z }) l.grid l.drawn
 
 abbrev pub decreases-loop-i : goal.decreases-loop-i
 decreases-loop-i l = l.curve.steps - l.i

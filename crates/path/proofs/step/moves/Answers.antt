@@ -6,13 +6,14 @@ use Rattle.integers.specs.Magnitude.{Within}
 use Rattle.integers.proofs.Difference.{val, pos_part, neg_part, val_of, val_within, zval}
 use Rattle.integers.proofs.Natural.{pos_sub}
 use Rattle.decide.proofs.Truth.{decided, same_test, less, not_less, at_most, true_of, false_of}
+use Rattle.cubic.specs.declared.axis.Axis.{Axis}
+use Rattle.cubic.specs.declared.differences.Cubic.{Cubic}
 use Rattle.cubic.specs.Differences.{next_of}
 use Rattle.cubic.proofs.Fits.{Holds, read, add, add_fits, sub, sub_fits, literal}
 use Rattle.scan.proofs.Natural.{natural_held}
-use Rattle.path.specs.Step.{moves_next}
+use Rattle.path.specs.Step.{moves_next, Moving}
 use Rattle.path.proofs.Held.{next_held}
 use Rattle.path.proofs.step.moves.Goals as goal
-use Rattle.path.proofs.step.moves.Goals.{After-next-next, Start}
 
 -- Where 0 stands.
 abbrev zero : ℕ
@@ -57,60 +58,54 @@ one_test n k r small most fits e =
     (decided (ltb (n + zero) k))
 
 -- What the machine holds: the next remainder, and the scale.
-module _ (c : After-next-next) where
-  abbrev s : Start
-  s = c.before
+module _ {N : ℤ} {a : Axis} (m : Moving N a) where
+  scale : Holds (2 ^ 60) (pos m.size) (read N)
+  scale = natural_held m.is m.small (lit< tt)
 
-  abbrev v : ℤ
-  v = (next_of s.args.axis.cubic).value
+  lowest_is : read (pos (zero + 1) -ℤ read N) ≡ pos (zero + 1 - m.size)
+  lowest_is = let small = m.small in (sub (literal (zero + 1)) scale (lit< tt)).same ∙ sym (pos_sub (omega arith))
 
-  value : Holds (2 ^ 60 + 2 ^ 60) v (read c.next-next.result.value)
-  value = next_held s.requires.cubic c.next-next.ensures
+  two_is : read (read N +ℤ read N) ≡ pos (m.size + m.size)
+  two_is = (add scale scale (lit< tt)).same
 
-  place : (k : ℕ) × (v +ℤ pos zero ≡ pos k) × (k ≤ 2 ^ 62)
-  place = shifted v value.size
+  module _ {n : Cubic} (e : n ≡ next_of a.cubic) where
+    value : Holds (2 ^ 60 + 2 ^ 60) (next_of a.cubic).value (read n.value)
+    value = next_held m.cubic e
 
-  value_is : read (read c.next-next.result.value +ℤ pos zero) ≡ pos place.0
-  value_is = (add value (literal zero) (lit< tt)).same ∙ place.1
+    place : (k : ℕ) × ((next_of a.cubic).value +ℤ pos zero ≡ pos k) × (k ≤ 2 ^ 62)
+    place = shifted (next_of a.cubic).value value.size
 
-scale : (s : Start) → Holds (2 ^ 60) (pos s.requires.size) (read s.args.scale)
-scale s = natural_held s.requires.is s.requires.small (lit< tt)
-
-lowest-is : (s : Start) → read (pos (zero + 1) -ℤ read s.args.scale) ≡ pos (zero + 1 - s.requires.size)
-lowest-is s =
-    let small = s.requires.small in
-    (sub (literal (zero + 1)) (scale s) (lit< tt)).same ∙ sym (pos_sub (omega arith))
-
-two_is : (s : Start) → read (read s.args.scale +ℤ read s.args.scale) ≡ pos (s.requires.size + s.requires.size)
-two_is s = (add (scale s) (scale s) (lit< tt)).same
+    value_is : read (read n.value +ℤ pos zero) ≡ pos place.0
+    value_is = (add value (literal zero) (lit< tt)).same ∙ place.1
 
 pub overflow_add-value : goal.overflow_add-value
-overflow_add-value c = add_fits (value c.before) (literal zero) (lit< tt)
+overflow_add-value c = add_fits (value c.requires c.next-next.ensures) (literal zero) (lit< tt)
 
 pub overflow_cast-value : goal.overflow_cast-value
-overflow_cast-value c = let n = c in rw (value_is n) (tt, record { fits = omega (arith, (place n).2) })
+overflow_cast-value c =
+    let p = place c.requires c.next-next.ensures in
+    rw (value_is c.requires c.next-next.ensures) (tt, record { fits = omega (arith, p.2) })
 
 pub overflow_sub-lowest : goal.overflow_sub-lowest
-overflow_sub-lowest c = sub_fits (literal (zero + 1)) (scale c.before) (lit< tt)
+overflow_sub-lowest c = sub_fits (literal (zero + 1)) (scale c.requires) (lit< tt)
 
 pub overflow_cast-lowest : goal.overflow_cast-lowest
-overflow_cast-lowest c = let s = c in rw (lowest-is s) (tt, record { fits = omega arith })
+overflow_cast-lowest c = rw (lowest_is c.requires) (tt, record { fits = omega arith })
 
 pub overflow_add-result : goal.overflow_add-result
-overflow_add-result c = let s = c in add_fits (scale s) (scale s) (lit< tt)
+overflow_add-result c = add_fits (scale c.requires) (scale c.requires) (lit< tt)
 
 pub overflow_cast-result : goal.overflow_cast-result
-overflow_cast-result c =
-    let s = c in
-    rw (two_is s) (tt, record { fits = omega (arith, s.requires.small) })
+overflow_cast-result c = rw (two_is c.requires) (tt, record { fits = omega (arith, c.requires.small) })
 
 pub returns : goal.returns
 unfolding moves_next
 returns c =
-    let n = c in
-    let s = n in
-    let k = place n in
+    let m = c.requires in
+    let e = c.next-next.ensures in
+    let v : ℤ = (next_of c.args.axis.cubic).value in
+    let k = place m e in
     let fits : c.wrapping_sub_usize.result < 2 ^ 64 = search rules in
-    let wraps = rw (lowest-is s, value_is n) at c.wrapping_sub_usize.ensures in
-    rw (two_is s, s.requires.is, above (v n) s.requires.size k.0 k.1, below (v n) s.requires.size k.0 k.1)
-    (one_test s.requires.size k.0 c.wrapping_sub_usize.result s.requires.small k.2 fits wraps)
+    let wraps = rw (lowest_is m, value_is m e) at c.wrapping_sub_usize.ensures.value in
+    rw (two_is m, m.is, above v m.size k.0 k.1, below v m.size k.0 k.1)
+    (one_test m.size k.0 c.wrapping_sub_usize.result m.small k.2 fits wraps)
