@@ -192,15 +192,15 @@ module _ (S : ℕ) (s : Solid) where
   abbrev cell_place : List ℕ → ℕ
   cell_place q = place S (cell_of (solid_of s) q)
 
-  abbrev pub slice_at : ℕ → List ℕ
-  slice_at k = map cell_place (rows s.n (row s.m (k ∷ [])))
+  abbrev pub slice_places : ℕ → List ℕ
+  slice_places k = map cell_place (rows s.n (row s.m (k ∷ [])))
 
   -- The places of the slices before slice k; with those of slice k they are those of the slices 0 to k.
   abbrev pub earlier : ℕ → List ℕ
   earlier zero = []
   earlier (suc k) = places S s k
 
-  pub with_slice : (k : ℕ) → earlier k ++ slice_at k ≡ places S s k
+  pub with_slice : (k : ℕ) → earlier k ++ slice_places k ≡ places S s k
   with_slice zero = ap (λ q. map cell_place (rows s.n q)) (sym (rows_first s.m []))
   with_slice (suc k) =
       sym (ap (λ q. map cell_place (rows s.n q)) (rows_more s.m k []) ∙
@@ -234,5 +234,5 @@ module _ {S : ℕ} (s : Solid) (l : Limited s) (d : Drawable S (solid_of s)) {N 
 
       pub slice_marks : (grid : List ℕ) {after : List ℕ} →
           after ≡ marked s.choice s.mark (map place_of (rows_of_walkers s.n s.m N h lines)) grid →
-          after ≡ marked s.choice s.mark (slice_at S s k) grid
+          after ≡ marked s.choice s.mark (slice_places S s k) grid
       slice_marks grid m = rw (q, e, f, rows_places (t_rows s l d hk) (slice_starts o)) at m

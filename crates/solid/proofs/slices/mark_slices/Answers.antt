@@ -25,7 +25,7 @@ use Rattle.solid.specs.declared.Solid.{Solid}
 use Rattle.solid.specs.declared.slices.Blocks.{Blocks}
 use Rattle.solid.specs.Solid.{solid_of}
 use Rattle.solid.proofs.Along.{drawable_in_limits, scale_read}
-use Rattle.solid.proofs.Sliced.{Limited, OnSlice, places, slice_at, earlier, with_slice, drawn_slices}
+use Rattle.solid.proofs.Sliced.{Limited, OnSlice, places, slice_places, earlier, with_slice, drawn_slices}
 use Rattle.solid.proofs.Sliced.{blocks_start, room_for_next, next_is, room_for_slice, slice_marks}
 use Rattle.solid.proofs.slices.mark_slices.Invariants.{SliceDone, SoFar, first_so_far, slice_done}
 use Rattle.solid.proofs.slices.mark_slices.Goals as goal

@@ -25,7 +25,7 @@ use Rattle.solid.specs.declared.Solid.{Solid}
 use Rattle.solid.specs.declared.slices.Blocks.{Blocks}
 use Rattle.solid.specs.Solid.{solid_of}
 use Rattle.solid.proofs.Along.{drawable_in_limits, scale_read}
-use Rattle.solid.proofs.Sliced.{Limited, OnSlice, places, slice_at, earlier, with_slice, drawn_slices}
+use Rattle.solid.proofs.Sliced.{Limited, OnSlice, places, slice_places, earlier, with_slice, drawn_slices}
 use Rattle.solid.proofs.Sliced.{blocks_start, room_for_next, next_is, room_for_slice, slice_marks}
 use Rattle.solid.proofs.slices.mark_slices.Given as goal
 
@@ -51,14 +51,14 @@ first_so_far S s o v = record { within = zero-le; on_slice = o; marks = refl; si
 
 -- A slice is done.
 pub slice_done : (S : ℕ) (s : Solid) {g grid grid' : List ℕ} {blocks : Blocks} {new k : ℕ} (more : ℕ) → SoFar S s g grid blocks new k →
-    grid' ≡ marked s.choice s.mark (slice_at S s k) grid → more + unmarked_cells grid' ≡ unmarked_cells grid →
+    grid' ≡ marked s.choice s.mark (slice_places S s k) grid → more + unmarked_cells grid' ≡ unmarked_cells grid →
     SliceDone S s g grid' (new + more) k
 slice_done S s {g} {grid} {k = k} more f e one = record {
   marks =
-      e ∙ ap (marked s.choice s.mark (slice_at S s k)) f.marks ∙
-      sym (marked_append s.choice s.mark (earlier S s k) (slice_at S s k) g) ∙
+      e ∙ ap (marked s.choice s.mark (slice_places S s k)) f.marks ∙
+      sym (marked_append s.choice s.mark (earlier S s k) (slice_places S s k) g) ∙
       ap (λ ps. marked s.choice s.mark ps g) (with_slice S s k);
-  size = ap length e ∙ length_marked s.choice s.mark (slice_at S s k) grid ∙ f.size;
+  size = ap length e ∙ length_marked s.choice s.mark (slice_places S s k) grid ∙ f.size;
   fewer = omega (arith, one, f.fewer);
 }
 

@@ -1,7 +1,8 @@
 -- `start_block` meets its contract: the walk along v starts in the cell of point 0.
 use borrow.Author.Rules.{rules}
 use mathlib.Core.Path.{◌≡◌}
-use Prim.Native.Nat.{◌≤◌}
+use mathlib.Core.List.{List}
+use Prim.Native.Nat.{ℕ, ◌≤◌, ◌<◌}
 use native.Mathlib.Omega.{arith}
 use lib.IntN.{ℤ, pos}
 use lib.ListN.{get_or}
@@ -13,8 +14,8 @@ use Rattle.rows.specs.declared.Line.{Line}
 use Rattle.rows.specs.Lines.{start_line}
 use Rattle.solid.specs.declared.slices.Block.{Block}
 use Rattle.solid.specs.Blocks.{start_block}
+use Rattle.solid.specs.Machine.{InLimits}
 use Rattle.solid.proofs.slices.start_block.Goals as goal
-use Rattle.solid.proofs.slices.start_block.Goals.{After-coordinate, Start}
 
 -- With the stride, the point and the volume as the code holds them.
 started : {g h p q : ℤ} {v w : Volume} {r : Line} → g ≡ h → p ≡ q → v ≡ w → r ≡ start_line g p v.value →
@@ -22,23 +23,21 @@ started : {g h p q : ℤ} {v w : Volume} {r : Line} → g ≡ h → p ≡ q → 
 started e f g k = rw (k, e, f, g)
 
 -- The coordinate, as it is read back, is below 64.
-module _ (c : After-coordinate) where
-  abbrev s : Start
-  s = c.before
+module _ {points : List ℕ} {n m l : ℕ} (q : InLimits points n m l) {a : ℕ} (h : a < 3) where
+  below : get_or points a 0 ≤ 63
+  below = q.coordinates a (rw q.all_points (omega arith))
 
-  below : get_or s.args.points.now s.args.a 0 ≤ 63
-  below = s.requires.in_limits.coordinates s.args.a (rw s.requires.in_limits.all_points (omega (arith, s.requires.a_bound)))
-
-  point : read c.coordinate.result ≡ pos (get_or s.args.points.now s.args.a 0)
-  point = answer_read c.coordinate.ensures (omega (arith, below))
+  point_read : {r : ℤ} → r ≡ pos (get_or points a 0) → read r ≡ pos (get_or points a 0)
+  point_read e = answer_read e (omega (arith, below))
 
 pub start-requires : goal.start-requires
 start-requires c =
-    rw (stride_read (s c).requires.small_stride, point c)
-    (record { stride = (s c).requires.small_stride; point = within_pos (omega (arith, below c)) })
+    let r = c.requires in
+    rw (stride_read r.small_stride, point_read r.in_limits r.a_bound c.coordinate.ensures)
+    (record { stride = r.small_stride; point = within_pos (omega (arith, below r.in_limits r.a_bound)) })
 
 pub returns : goal.returns
 returns c =
-    let b = c in
-    let e = b.start_volume-v.ensures in
-    started (stride_read (s b).requires.small_stride) (point b) e c.start.ensures
+    let r = c.requires in
+    started (stride_read r.small_stride) (point_read r.in_limits r.a_bound c.coordinate.ensures)
+    c.start_volume-v.ensures c.start.ensures

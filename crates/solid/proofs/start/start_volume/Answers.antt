@@ -16,7 +16,6 @@ use Rattle.rows.specs.Face.{doubled_face}
 use Rattle.solid.specs.Machine.{InLimits, face_along, doubled_along}
 use Rattle.solid.proofs.Along.{face_is, faces_start}
 use Rattle.solid.proofs.start.start_volume.Goals as goal
-use Rattle.solid.proofs.start.start_volume.Goals.{After-count, Start}
 
 -- With the count and the four faces as the code holds them.
 module _ {points : List ℕ} {n m l : ℕ} (q : InLimits points n m l) {a : ℕ} (h : a < 3) {k : ℤ} {f0 f1 f2 f3 : Surface} (f : k ≡ pos l)
@@ -37,22 +36,17 @@ module _ {points : List ℕ} {n m l : ℕ} (q : InLimits points n m l) {a : ℕ}
       volume_start_of (pos l) (face_along points n m a 0) (face_along points n m a 1) (face_along points n m a 2) (face_along points n m a 3)
 
 -- The count, as it is read back.
-module _ (c : After-count) where
-  abbrev s : Start
-  s = c.before
-
-  steps : read c.count.result ≡ pos s.args.l
-  steps = answer_read c.count.ensures (omega (arith, s.requires.in_limits.l_most))
+count_read : {points : List ℕ} {n m l : ℕ} → InLimits points n m l → {k : ℤ} → k ≡ pos l → read k ≡ pos l
+count_read q e = answer_read e (omega (arith, q.l_most))
 
 pub start-requires : goal.start-requires
 start-requires c =
-    faces (s c).requires.in_limits (s c).requires.a_bound (steps c)
+    faces c.requires.in_limits c.requires.a_bound (count_read c.requires.in_limits c.count.ensures)
     c.start_surface-f0.ensures c.start_surface-f1.ensures
     c.start_surface-f2.ensures c.start_surface-f3.ensures
 
 pub returns : goal.returns
 returns c =
-    let k = c in
-    started (s k).requires.in_limits (s k).requires.a_bound (steps k)
-    k.start_surface-f0.ensures k.start_surface-f1.ensures
-    k.start_surface-f2.ensures k.start_surface-f3.ensures c.start.ensures
+    started c.requires.in_limits c.requires.a_bound (count_read c.requires.in_limits c.count.ensures)
+    c.start_surface-f0.ensures c.start_surface-f1.ensures
+    c.start_surface-f2.ensures c.start_surface-f3.ensures c.start.ensures
