@@ -3,6 +3,8 @@ ghost use Rattle.std.specs.Prelude.{◌≡◌, ◌*◌, ◌<◌, ◌≤◌, ◌�
 ghost use Rattle.reading.specs.Read.{ReadInto};
 ghost use Rattle.cases.specs.Block.{is_more};
 
+use std::io::{Stderr, Stdin, Stdout, Write};
+
 // Whether there may be more input, it has ended, or reading or writing failed.
 #[derive(Clone, Copy)]
 pub enum Progress {
@@ -18,21 +20,22 @@ pub struct Block {
     pub then: Progress,
 }
 
-// Reads records of the given width until their buffer is full or the input ends. A record that is cut short is a
+// Reads records of the given width from standard input until their buffer is full or the input ends. A record that is cut short is a
 // failure.
-pub fn read_records(records: &mut [u8], width: usize) -> Block
+pub fn read_records(input: Stdin, records: &mut [u8], width: usize) -> Block
     requires { 0 < width }
     ensures { ReadInto records.old (result.count * width) records.new }
 {
-    let input = reading::fill(libc::STDIN_FILENO, records);
-    let count = input.count / width;
-    if input.failed || input.count % width != 0 {
+    let mut reader = input;
+    let read = reading::fill(&mut reader, records);
+    let count = read.count / width;
+    if read.failed || read.count % width != 0 {
         return Block {
             count,
             then: Progress::Failed,
         };
     }
-    if input.count < records.len() {
+    if read.count < records.len() {
         Block {
             count,
             then: Progress::Ended,
@@ -46,11 +49,12 @@ pub fn read_records(records: &mut [u8], width: usize) -> Block
 }
 
 // Writes a block's answers, the given number of bytes, and says how it goes on, which was found before.
-pub fn write_answers(answers: &[u8], bytes: usize, then: Progress) -> Progress
+pub fn write_answers(output: Stdout, answers: &[u8], bytes: usize, then: Progress) -> Progress
     requires { bytes ≤ length answers.now }
     ensures { (result ≡ Progress.Failed) ⊎ (result ≡ «then») }
 {
-    if io::write_all(libc::STDOUT_FILENO, &answers[..bytes]) {
+    let mut writer = output;
+    if writer.write_all(&answers[..bytes]).is_ok() {
         then
     } else {
         Progress::Failed
@@ -59,20 +63,20 @@ pub fn write_answers(answers: &[u8], bytes: usize, then: Progress) -> Progress
 
 // Whether to go on. Once the input has ended and all of it is answered, END is written, so what a failed read or write
 // cuts short shows.
-pub(crate) fn goes_on(progress: Progress) -> bool
+pub(crate) fn goes_on(progress: Progress, output: Stdout, errors: Stderr) -> bool
     ensures { result ≡ is_more progress }
 {
     match progress {
         Progress::More => true,
         Progress::Ended => {
-            io::write_all(libc::STDOUT_FILENO, b"END\n");
+            let mut writer = output;
+            let _written = writer.write_all(b"END\n").is_ok();
             false
         }
         Progress::Failed => {
-            io::write_all(
-                libc::STDERR_FILENO,
-                b"stopped: a read or a write failed, or a record is cut short\n",
-            );
+            let mut writer = errors;
+            let message = b"stopped: a read or a write failed, or a record is cut short\n";
+            let _written = writer.write_all(message).is_ok();
             false
         }
     }

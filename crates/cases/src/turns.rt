@@ -3,6 +3,7 @@ ghost use Rattle.std.specs.Prelude.{◌≡◌, ◌-◌, ◌<◌, if◌then◌els
 ghost use Rattle.cases.specs.Block.{is_more};
 
 use crate::block::{Progress, goes_on};
+use std::io::{Stderr, Stdout};
 
 // A loop has to end, and nothing says that the input does: the turns that are left count down from a number that no run
 // uses up.
@@ -19,13 +20,13 @@ impl Turns {
     }
 
     // The turns after one: none where the run does not go on.
-    pub fn after(self, progress: Progress) -> Turns
+    pub fn after(self, progress: Progress, output: Stdout, errors: Stderr) -> Turns
         requires { 0 < self.left }
         ensures less { result.left < self.left }
         ensures stops { result.left ≡ (if is_more progress then self.left - 1 else 0) }
     {
         let left = self.left;
-        if goes_on(progress) {
+        if goes_on(progress, output, errors) {
             Turns { left: left - 1 }
         } else {
             Turns { left: 0 }

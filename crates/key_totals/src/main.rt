@@ -4,6 +4,6 @@
 
 use sheet_program::Report;
 
-fn main() {
-    sheet_program::run(b"key_totals", Report::Totals);
+fn main(rt: HostRuntime) {
+    sheet_program::run(rt.stdin(), rt.stdout(), rt.stderr(), b"key_totals", Report::Totals);
 }

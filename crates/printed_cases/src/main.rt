@@ -15,26 +15,28 @@ use cases::input::{read_bytes, read_heading};
 use cases::record::number;
 use cases::turns::Turns;
 use sheet_program::Report;
+use std::io::{Stdin, Stdout};
 
-fn main() {
+fn main(rt: HostRuntime) {
     let mut turns = Turns::all();
     while turns.left > 0 {
-        turns = turns.after(answer_next());
+        let progress = answer_next(rt.stdin(), rt.stdout());
+        turns = turns.after(progress, rt.stdout(), rt.stderr());
     }
 }
 
 // Answers the next case.
-fn answer_next() -> Progress {
+fn answer_next(input: Stdin, output: Stdout) -> Progress {
     let mut heading = [0u8; 19];
     let mut sheet = [0u8; 16384];
-    answer_input(&mut heading, &mut sheet)
+    answer_input(input, output, &mut heading, &mut sheet)
 }
 
 // Reads a case and prints its answer. One that asks for more bytes than there are is a failure.
-fn answer_input(heading: &mut [u8], sheet: &mut [u8]) -> Progress
+fn answer_input(input: Stdin, output: Stdout, heading: &mut [u8], sheet: &mut [u8]) -> Progress
     requires { length heading.old ≡ 19 }
 {
-    let read = read_heading(heading, b'P');
+    let read = read_heading(input, heading, b'P');
     match read {
         Progress::More => {
             let report = number(heading, 0);
@@ -42,27 +44,27 @@ fn answer_input(heading: &mut [u8], sheet: &mut [u8]) -> Progress
             if sheet.len() < count {
                 return Progress::Failed;
             }
-            answer_sheet(report, &mut sheet[..count])
+            answer_sheet(input, output, report, &mut sheet[..count])
         }
         _ => read,
     }
 }
 
 // Reads the sheet and prints what is asked of it. An unknown report is a failure.
-fn answer_sheet(report: u32, sheet: &mut [u8]) -> Progress {
-    let read = read_bytes(sheet);
+fn answer_sheet(input: Stdin, output: Stdout, report: u32, sheet: &mut [u8]) -> Progress {
+    let read = read_bytes(input, sheet);
     match read {
         Progress::More => match report {
-            0 => print(sheet, Report::Listing),
-            1 => print(sheet, Report::Totals),
+            0 => print(output, sheet, Report::Listing),
+            1 => print(output, sheet, Report::Totals),
             _ => Progress::Failed,
         },
         _ => read,
     }
 }
 
-fn print(sheet: &[u8], report: Report) -> Progress {
-    if sheet_program::print_sheet(sheet, report) {
+fn print(output: Stdout, sheet: &[u8], report: Report) -> Progress {
+    if sheet_program::print_sheet(output, sheet, report) {
         Progress::More
     } else {
         Progress::Failed

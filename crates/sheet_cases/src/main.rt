@@ -28,26 +28,30 @@ use cases::digest::{Digest, begun, eight, extended};
 use cases::input::{read_bytes, read_heading};
 use cases::record::number;
 use cases::turns::Turns;
+use std::io::{Stdin, Stdout};
 use sheet_cube::Answer;
 
-fn main() {
+fn main(rt: HostRuntime) {
     let mut buffer = [0u8; 65536];
     let mut turns = Turns::all();
     while turns.left > 0 {
-        turns = turns.after(answer_next(&mut buffer));
+        let progress = answer_next(rt.stdin(), rt.stdout(), &mut buffer);
+        turns = turns.after(progress, rt.stdout(), rt.stderr());
     }
 }
 
 // Answers the next case.
-fn answer_next(buffer: &mut [u8]) -> Progress {
+fn answer_next(input: Stdin, output: Stdout, buffer: &mut [u8]) -> Progress {
     let mut heading = [0u8; 46];
     let mut sheet = [0u8; 16384];
     let mut text = [0u8; 33621];
-    answer_input(&mut heading, &mut sheet, &mut text, buffer)
+    answer_input(input, output, &mut heading, &mut sheet, &mut text, buffer)
 }
 
 // Reads a case and writes its answer.
 fn answer_input(
+    input: Stdin,
+    output: Stdout,
     heading: &mut [u8],
     sheet: &mut [u8],
     text: &mut [u8],
@@ -55,15 +59,22 @@ fn answer_input(
 ) -> Progress
     requires { (length heading.old ≡ 46) × (length text.old ≡ 33621) }
 {
-    let read = read_heading(heading, b'S');
+    let read = read_heading(input, heading, b'S');
     match read {
-        Progress::More => answer_case(heading, sheet, text, buffer),
+        Progress::More => answer_case(input, output, heading, sheet, text, buffer),
         _ => read,
     }
 }
 
 // Answers the case of a heading. One that asks for more bytes than there are is a failure.
-fn answer_case(heading: &[u8], sheet: &mut [u8], text: &mut [u8], buffer: &mut [u8]) -> Progress
+fn answer_case(
+    input: Stdin,
+    output: Stdout,
+    heading: &[u8],
+    sheet: &mut [u8],
+    text: &mut [u8],
+    buffer: &mut [u8],
+) -> Progress
     requires { (length heading.now ≡ 46) × (length text.old ≡ 33621) }
 {
     let lent = number(heading, 0) as usize;
@@ -74,22 +85,35 @@ fn answer_case(heading: &[u8], sheet: &mut [u8], text: &mut [u8], buffer: &mut [
     if sheet.len() < count {
         return Progress::Failed;
     }
-    answer_lent(heading, &mut sheet[..count], text, &mut buffer[..lent])
+    answer_lent(input, output, heading, &mut sheet[..count], text, &mut buffer[..lent])
 }
 
 // Reads the sheet and answers it.
-fn answer_lent(heading: &[u8], sheet: &mut [u8], text: &mut [u8], lent: &mut [u8]) -> Progress
+fn answer_lent(
+    input: Stdin,
+    output: Stdout,
+    heading: &[u8],
+    sheet: &mut [u8],
+    text: &mut [u8],
+    lent: &mut [u8],
+) -> Progress
     requires { (length heading.now ≡ 46) × (length text.old ≡ 33621) }
 {
-    let read = read_bytes(sheet);
+    let read = read_bytes(input, sheet);
     match read {
-        Progress::More => answer_sheet(heading, sheet, text, lent),
+        Progress::More => answer_sheet(output, heading, sheet, text, lent),
         _ => read,
     }
 }
 
 // Draws the sheet and writes the answer.
-fn answer_sheet(heading: &[u8], sheet: &[u8], text: &mut [u8], lent: &mut [u8]) -> Progress
+fn answer_sheet(
+    output: Stdout,
+    heading: &[u8],
+    sheet: &[u8],
+    text: &mut [u8],
+    lent: &mut [u8],
+) -> Progress
     requires { (length heading.now ≡ 46) × (length text.old ≡ 33621) }
 {
     let answer = draw_filled(heading, sheet, lent);
@@ -97,6 +121,7 @@ fn answer_sheet(heading: &[u8], sheet: &[u8], text: &mut [u8], lent: &mut [u8]) 
     let printed = printed::printed(answer, lent, number(heading, 3), text);
     match answer {
         Answer::Drawn(drawn) => write_answer(
+            output,
             b'A',
             drawn.side,
             drawn.curves,
@@ -105,7 +130,7 @@ fn answer_sheet(heading: &[u8], sheet: &[u8], text: &mut [u8], lent: &mut [u8]) 
             printed,
         ),
         Answer::Refused(refusal) => {
-            write_answer(b'R', refusal.number, refusal.line, 0, held, printed)
+            write_answer(output, b'R', refusal.number, refusal.line, 0, held, printed)
         }
     }
 }
@@ -124,6 +149,7 @@ fn draw_filled(heading: &[u8], sheet: &[u8], lent: &mut [u8]) -> Answer
 
 // Writes an answer record, and says how it goes on.
 fn write_answer(
+    output: Stdout,
     letter: u8,
     a: u32,
     b: u32,
@@ -144,5 +170,5 @@ fn write_answer(
     ];
     let mut record = [0u8; 83];
     cases::answer::put_answer(letter, false, &numbers, &mut record, 0);
-    cases::block::write_answers(&record, 83, Progress::More)
+    cases::block::write_answers(output, &record, 83, Progress::More)
 }

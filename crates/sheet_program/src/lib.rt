@@ -10,6 +10,7 @@ ghost use Rattle.sheet_program.specs.Totals.{WritesTotals};
 
 pub use print::print_sheet;
 use sheet_cube::Answer;
+use std::io::{Stderr, Stdin, Stdout, Write};
 
 // What a program prints of a sheet's cube.
 #[derive(Clone, Copy)]
@@ -59,21 +60,23 @@ pub fn total_sheet(input: &[u8], buffer: &mut [u8], text: &mut [u8]) -> usize
 
 // Runs the program of that name. The input is read to its end, or to one byte past the longest sheet: what follows
 // changes nothing.
-pub fn run(name: &[u8], report: Report) {
-    let mut input = [0u8; 14207];
-    let read = reading::fill(libc::STDIN_FILENO, &mut input);
+pub fn run(input: Stdin, output: Stdout, errors: Stderr, name: &[u8], report: Report) {
+    let mut sheet = [0u8; 14207];
+    let mut reader = input;
+    let read = reading::fill(&mut reader, &mut sheet);
     if read.failed {
-        tell(name, b": the sheet cannot be read\n");
+        tell(errors, name, b": the sheet cannot be read\n");
         return;
     }
     let count = read.count;
-    if !print_sheet(&input[..count], report) {
-        tell(name, b": the output cannot be written, or not all of it\n");
+    if !print_sheet(output, &sheet[..count], report) {
+        tell(errors, name, b": the output cannot be written, or not all of it\n");
     }
 }
 
 // Tells a failure of the program on standard error.
-fn tell(name: &[u8], message: &[u8]) {
-    io::write_all(libc::STDERR_FILENO, name);
-    io::write_all(libc::STDERR_FILENO, message);
+fn tell(errors: Stderr, name: &[u8], message: &[u8]) {
+    let mut writer = errors;
+    let _named = writer.write_all(name).is_ok();
+    let _told = writer.write_all(message).is_ok();
 }

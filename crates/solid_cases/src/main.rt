@@ -43,25 +43,29 @@ use cases::bytes::{copy, front};
 use cases::lent::Answer;
 use cases::record::number;
 use cases::turns::Turns;
+use std::io::{Stdin, Stdout};
 
-fn main() {
+fn main(rt: HostRuntime) {
     let mut buffer = [0u8; 262144];
     let mut second = [0u8; 262144];
     let mut turns = Turns::all();
     while turns.left > 0 {
-        turns = turns.after(answer_block(&mut buffer, &mut second));
+        let progress = answer_block(rt.stdin(), rt.stdout(), &mut buffer, &mut second);
+        turns = turns.after(progress, rt.stdout(), rt.stderr());
     }
 }
 
 // Answers the next 256 cases, or as many as are left.
-fn answer_block(buffer: &mut [u8], second: &mut [u8]) -> Progress {
+fn answer_block(input: Stdin, output: Stdout, buffer: &mut [u8], second: &mut [u8]) -> Progress {
     let mut records = [0u8; 166144];
     let mut answers = [0u8; 12032];
-    answer_input(&mut records, &mut answers, buffer, second)
+    answer_input(input, output, &mut records, &mut answers, buffer, second)
 }
 
 // Reads cases until their buffer is full or the input ends, and writes the answers.
 fn answer_input(
+    input: Stdin,
+    output: Stdout,
     records: &mut [u8],
     answers: &mut [u8],
     buffer: &mut [u8],
@@ -69,10 +73,10 @@ fn answer_input(
 ) -> Progress
     requires { (length records.old ≡ 166144) × (length answers.old ≡ 12032) }
 {
-    let block = cases::block::read_records(records, 649);
+    let block = cases::block::read_records(input, records, 649);
     let then = block.then;
     answer_cases(records, block.count, answers, buffer, second);
-    cases::block::write_answers(answers, block.count * 47, then)
+    cases::block::write_answers(output, answers, block.count * 47, then)
 }
 
 // Answers each case with the record of the same number.

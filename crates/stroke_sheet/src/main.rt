@@ -4,6 +4,6 @@
 
 use sheet_program::Report;
 
-fn main() {
-    sheet_program::run(b"stroke_sheet", Report::Listing);
+fn main(rt: HostRuntime) {
+    sheet_program::run(rt.stdin(), rt.stdout(), rt.stderr(), b"stroke_sheet", Report::Listing);
 }

@@ -20,6 +20,7 @@ ghost use Rattle.std.specs.Float.Ieee.{of_bits, to_bits};
 
 use cases::block::Progress;
 use cases::turns::Turns;
+use std::io::{Stdin, Stdout};
 use channel::Rgb;
 use hsv::Hsv;
 use swatch::{CellAnswer, HalfWayAnswer, Swatch};
@@ -32,28 +33,29 @@ struct Answer {
     numbers: [u32; 3],
 }
 
-fn main() {
+fn main(rt: HostRuntime) {
     let mut turns = Turns::all();
     while turns.left > 0 {
-        turns = turns.after(answer_block());
+        let progress = answer_block(rt.stdin(), rt.stdout());
+        turns = turns.after(progress, rt.stdout(), rt.stderr());
     }
 }
 
 // Answers the next 1,024 cases, or as many as are left.
-fn answer_block() -> Progress {
+fn answer_block(input: Stdin, output: Stdout) -> Progress {
     let mut records = [0u8; 74752];
     let mut answers = [0u8; 29696];
-    answer_input(&mut records, &mut answers)
+    answer_input(input, output, &mut records, &mut answers)
 }
 
 // Reads cases until their buffer is full or the input ends, and writes the answers.
-fn answer_input(records: &mut [u8], answers: &mut [u8]) -> Progress
+fn answer_input(input: Stdin, output: Stdout, records: &mut [u8], answers: &mut [u8]) -> Progress
     requires { (length records.old ≡ 74752) × (length answers.old ≡ 29696) }
 {
-    let block = cases::block::read_records(records, 73);
+    let block = cases::block::read_records(input, records, 73);
     let then = block.then;
     answer_cases(records, block.count, answers);
-    cases::block::write_answers(answers, block.count * 29, then)
+    cases::block::write_answers(output, answers, block.count * 29, then)
 }
 
 // Answers each case with the record of the same number.
