@@ -1,5 +1,4 @@
 -- `start_surface` meets its contract: the columns start along t, and their values and differences along u.
-use borrow.Author.Rules.{rules}
 use mathlib.Core.Path.{◌≡◌, ◌∙◌}
 use mathlib.Core.List.{List}
 use Prim.Native.Nat.{ℕ, ◌+◌, ◌*◌, ◌≤◌}

@@ -1,5 +1,4 @@
 -- `Line::next` meets its contract: a step along u, and equation 8 on each of the three cubics.
-use borrow.Author.Rules.{rules}
 use mathlib.Core.Path.{◌≡◌}
 use lib.Dec.{lit<}
 use Rattle.cubic.specs.declared.axis.Axis.{Axis}
