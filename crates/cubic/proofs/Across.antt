@@ -1,6 +1,6 @@
 -- Differences along one parameter and along another commute, so that values which are cubics along each parameter stay so
 -- under differences. Nothing here knows how many parameters there are: a function of several is taken two at a time.
-use mathlib.Core.Path.{◌≡◌, refl, sym, ◌∙◌, ap, ap₂}
+use mathlib.Core.Path.{◌≡◌, refl, ◌∙◌, ap, ap₂}
 use mathlib.Core.List.{[], ◌∷◌}
 use Prim.Native.Nat.{ℕ, zero, suc}
 use lib.IntN.{ℤ, pos, ◌-ℤ◌}

@@ -1,28 +1,20 @@
 -- `mark_rows` meets its contract: before row j the grid has the marks of the rows before it, and has lost as many unmarked
 -- cells as are counted.
-use borrow.Author.Rules.{rules}
-use mathlib.Core.Path.{◌≡◌, refl, sym, ◌∙◌, ap, ap₂}
-use mathlib.Core.Logic.{⊎_elim}
+use mathlib.Core.Path.{◌≡◌, refl, sym, ◌∙◌, ap}
 use mathlib.Core.List.{List, [], ◌++◌, map, map-append}
-use Prim.Native.Nat.{ℕ, zero, suc, ◌+◌, ◌-◌, ◌≤◌, ◌<◌, zero-le}
-use native.Mathlib.Numerals.{add-one}
+use Prim.Native.Nat.{ℕ, zero, suc, ◌+◌, ◌-◌, ◌≤◌}
 use native.Mathlib.Omega.{arith}
 use lib.IntN.{ℤ}
 use lib.ListN.{length}
-use mir.Syntax.{w64}
-use mir.Val.{to_z}
-use mir.Facts.{to_z-of_z}
 use Rattle.drawing.specs.declared.Choice.{Choice}
 use Rattle.drawing.specs.Drawing.{marked}
 use Rattle.drawing.specs.NewCells.{unmarked_cells}
 use Rattle.drawing.proofs.Marked.{marked_append, length_marked}
-use Rattle.drawing.proofs.NewCells.{unmarked_at_most}
-use Rattle.cubic.proofs.Fits.{read}
 use Rattle.scan.specs.declared.walker.Strides.{Strides}
 use Rattle.scan.specs.declared.walker.Walker.{Walker}
 use Rattle.scan.specs.Walker.{place_of, walkers, OnGrid}
 use Rattle.rows.specs.declared.Lines.{Lines}
-use Rattle.rows.specs.Lines.{next_lines, row_walker, lines_after, row_of_walkers, rows_of_walkers, RowsOnGrid}
+use Rattle.rows.specs.Lines.{row_walker, lines_after, row_of_walkers, rows_of_walkers}
 use Rattle.rows.proofs.mark_rows.Given as goal
 
 module _ (n : ℕ) (scale : ℤ) (h : Strides) (start : Lines) where

@@ -1,8 +1,7 @@
 -- `start_surface` meets its contract: the columns start along t, and their values and differences along u.
-use borrow.Author.Rules.{rules}
 use mathlib.Core.Path.{◌≡◌, ◌∙◌}
 use mathlib.Core.List.{List}
-use Prim.Native.Nat.{ℕ, ◌+◌, ◌*◌}
+use Prim.Native.Nat.{ℕ, ◌+◌, ◌*◌, ◌≤◌}
 use native.Mathlib.Omega.{arith}
 use lib.IntN.{ℤ, pos}
 use Rattle.cubic.specs.declared.differences.Cubic.{Cubic}
@@ -16,7 +15,6 @@ use Rattle.surface.proofs.Follows.{start_of}
 use Rattle.rows.specs.Face.{doubled_face, InFace}
 use Rattle.rows.proofs.Face.{face_starts}
 use Rattle.rows.proofs.start_surface.Goals as goal
-use Rattle.rows.proofs.start_surface.Goals.{After-count, Start}
 
 -- With the count and the four columns as the code holds them.
 module _ {points : List ℕ} {n m apart across at : ℕ} (l : InFace points n m apart across at) {k : ℤ} {c0 c1 c2 c3 : Cubic} (f : k ≡ pos m)
@@ -30,23 +28,17 @@ module _ {points : List ℕ} {n m apart across at : ℕ} (l : InFace points n m 
   started : {r : Surface} → r ≡ start_across k c0 c1 c2 c3 → r ≡ surface_of (doubled_face points n m apart across at) 0
   started e = rw (f, e0, e1, e2, e3) at e ∙ start_of (pos m) _ _ _ _
 
--- The count, as it is read back, and the four columns.
-module _ (c : After-count) where
-  abbrev s : Start
-  s = c.before
-
-  steps : read c.count.result ≡ pos s.args.m
-  steps = answer_read c.count.ensures (omega (arith, s.requires.m_most))
+-- The count, as it is read back.
+steps : {k : ℤ} {m : ℕ} → k ≡ pos m → m ≤ 256 → read k ≡ pos m
+steps e h = answer_read e (omega arith)
 
 pub start-requires : goal.start-requires
 start-requires c =
-    starts (s c).requires (steps c)
-    c.start_column-c0.ensures c.start_column-c1.ensures
-    c.start_column-c2.ensures c.start_column-c3.ensures
+    starts c.requires (steps c.count.ensures c.requires.m_most)
+    c.start_column-c0.ensures c.start_column-c1.ensures c.start_column-c2.ensures c.start_column-c3.ensures
 
 pub returns : goal.returns
 returns c =
-    let k = c in
-    started (s k).requires (steps k)
-    k.start_column-c0.ensures k.start_column-c1.ensures
-    k.start_column-c2.ensures k.start_column-c3.ensures c.start.ensures
+    started c.requires (steps c.count.ensures c.requires.m_most)
+    c.start_column-c0.ensures c.start_column-c1.ensures c.start_column-c2.ensures c.start_column-c3.ensures
+    c.start.ensures

@@ -1,5 +1,4 @@
 -- `Line::next` meets its contract: a step along u, and equation 8 on each of the three cubics.
-use borrow.Author.Rules.{rules}
 use mathlib.Core.Path.{◌≡◌}
 use lib.Dec.{lit<}
 use Rattle.cubic.specs.declared.axis.Axis.{Axis}
@@ -17,6 +16,6 @@ pub returns : goal.returns
 returns c =
     let p = c.requires in
     same_parts
-    (rw ((held p.walk-1.scale (lit< tt)).same, (held p.walk-1.stride (lit< tt)).same)
+    (rw ((held p.walk.scale (lit< tt)).same, (held p.walk.stride (lit< tt)).same)
     at c.step-next.ensures)
     c.next.ensures c.next-2.ensures c.next-3.ensures

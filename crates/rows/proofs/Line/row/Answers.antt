@@ -1,5 +1,4 @@
 -- `Line::row` meets its contract: the row of the walk along u, with the three differences.
-use borrow.Author.Rules.{rules}
 use Rattle.rows.proofs.Line.row.Goals as goal
 
 pub returns : goal.returns

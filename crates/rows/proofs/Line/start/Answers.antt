@@ -1,5 +1,4 @@
 -- `Line::start` meets its contract: the walk along u starts beside the other three cubics.
-use borrow.Author.Rules.{rules}
 use mir.Facts.{to_z-of_z}
 use Rattle.rows.proofs.Line.start.Goals as goal
 

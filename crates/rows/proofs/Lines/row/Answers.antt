@@ -1,5 +1,4 @@
 -- `Lines::row` meets its contract: the row on each axis.
-use borrow.Author.Rules.{rules}
 use Rattle.rows.proofs.Lines.row.Goals as goal
 
 pub returns : goal.returns

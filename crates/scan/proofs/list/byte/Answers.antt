@@ -1,6 +1,5 @@
 -- `byte` meets its contract: the cast loses nothing.
 use mathlib.Core.Path.{◌≡◌}
-use borrow.Author.Rules.{rules}
 use lib.Dec.{T}
 use lib.IntN.{ℤ, nat_abs}
 use lib.Signed.{non_neg}

@@ -1,23 +1,11 @@
 -- `list_row` meets its contract: after i steps the list begins with the bytes of the first i + 1 walkers' cells.
 use borrow.Author.Rules.{rules}
-use mathlib.Core.Path.{◌≡◌, refl, ap, ◌∙◌}
-use mathlib.Core.List.{List, ◌++◌, map, map-append, append_assoc}
-use Prim.Native.Nat.{ℕ, suc, ◌≤◌, ◌<◌, ◌-◌, ◌+◌, ◌*◌}
+use mathlib.Core.Path.{◌≡◌}
 use native.Mathlib.Numerals.{add-one}
 use native.Mathlib.Omega.{arith}
-use lib.IntN.{ℤ}
-use lib.ListN.{length, drop, length-map}
-use lib.Seq.{sets, sets-eq, length-sets}
-use mir.Syntax.{w64}
-use mir.Val.{to_z}
 use mir.Facts.{to_z-of_z}
-use Rattle.drawing.specs.Drawing.{bytes}
-use Rattle.drawing.proofs.Listed.{length_bytes}
-use Rattle.scan.specs.declared.walker.Walker.{Walker}
-use Rattle.scan.specs.declared.walker.Strides.{Strides}
-use Rattle.scan.specs.Walker.{step_all, after, cell_of_walker, coordinates, ByteCell, walkers, OnList}
-use Rattle.scan.proofs.Written.{bytes_more, written_after}
-use Rattle.scan.proofs.Row.{AfterSteps, no_steps, holds_now, room_now, step_more, length_walkers}
+use Rattle.scan.specs.Walker.{ByteCell}
+use Rattle.scan.proofs.Row.{no_steps, holds_now, room_now, step_more}
 use Rattle.scan.proofs.list.list_row.Invariants.{first, next}
 use Rattle.scan.proofs.list.list_row.Goals as goal
 

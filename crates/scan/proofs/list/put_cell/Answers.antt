@@ -1,5 +1,4 @@
 -- `put_cell` meets its contract: the three bytes are written one after another.
-use borrow.Author.Rules.{rules}
 use mathlib.Core.Path.{◌≡◌, ◌∙◌, ap}
 use Prim.Native.Nat.{ℕ, suc, ◌+◌}
 use native.Mathlib.Nat.{le_of_lt}

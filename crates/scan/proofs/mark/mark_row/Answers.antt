@@ -1,26 +1,12 @@
 -- `mark_row` meets its contract: after i steps the grid has the marks of the first i + 1 walkers' places, and has lost as
 -- many unmarked cells as are counted.
 use borrow.Author.Rules.{rules}
-use mathlib.Core.Path.{◌≡◌, refl, sym, ◌∙◌}
-use mathlib.Core.Bool.{Bool}
-use mathlib.Core.List.{List, map, map-append}
-use Prim.Native.Nat.{ℕ, suc, ◌+◌, ◌≤◌, ◌<◌, ◌-◌}
+use mathlib.Core.Path.{◌≡◌, ◌∙◌}
 use native.Mathlib.Numerals.{add-one}
 use native.Mathlib.Omega.{arith}
-use lib.IntN.{ℤ}
-use lib.ListN.{length, length-set}
-use mir.Syntax.{w64}
-use mir.Val.{to_z, bool_byte}
 use mir.Facts.{to_z-of_z}
-use Rattle.drawing.specs.declared.Choice.{Choice}
-use Rattle.drawing.specs.Drawing.{marked}
-use Rattle.drawing.specs.NewCells.{unmarked_cells}
-use Rattle.drawing.proofs.Marked.{marked_at, marked_append}
-use Rattle.scan.specs.declared.walker.Walker.{Walker}
-use Rattle.scan.specs.declared.walker.Strides.{Strides}
-use Rattle.scan.specs.Walker.{step_all, HasPlace, place_of, walkers, OnGrid}
 use Rattle.scan.proofs.Written.{counted, one_more}
-use Rattle.scan.proofs.Row.{AfterSteps, no_steps, holds_now, room_now, step_more}
+use Rattle.scan.proofs.Row.{no_steps, room_now, step_more}
 use Rattle.scan.proofs.mark.mark_row.Invariants.{byte, first, has_place, next}
 use Rattle.scan.proofs.mark.mark_row.Goals as goal
 

@@ -1,17 +1,13 @@
 -- `mark_row` meets its contract: after i steps the grid has the marks of the first i + 1 walkers' places, and has lost as
 -- many unmarked cells as are counted.
-use borrow.Author.Rules.{rules}
-use mathlib.Core.Path.{◌≡◌, refl, sym, ◌∙◌}
+use mathlib.Core.Path.{◌≡◌, refl, sym}
 use mathlib.Core.Bool.{Bool}
 use mathlib.Core.List.{List, map, map-append}
 use Prim.Native.Nat.{ℕ, suc, ◌+◌, ◌≤◌, ◌<◌, ◌-◌}
-use native.Mathlib.Numerals.{add-one}
 use native.Mathlib.Omega.{arith}
 use lib.IntN.{ℤ}
 use lib.ListN.{length, length-set}
-use mir.Syntax.{w64}
-use mir.Val.{to_z, bool_byte}
-use mir.Facts.{to_z-of_z}
+use mir.Val.{bool_byte}
 use Rattle.drawing.specs.declared.Choice.{Choice}
 use Rattle.drawing.specs.Drawing.{marked}
 use Rattle.drawing.specs.NewCells.{unmarked_cells}
@@ -19,8 +15,8 @@ use Rattle.drawing.proofs.Marked.{marked_at, marked_append}
 use Rattle.scan.specs.declared.walker.Walker.{Walker}
 use Rattle.scan.specs.declared.walker.Strides.{Strides}
 use Rattle.scan.specs.Walker.{step_all, HasPlace, place_of, walkers, OnGrid}
-use Rattle.scan.proofs.Written.{counted, one_more}
-use Rattle.scan.proofs.Row.{AfterSteps, no_steps, holds_now, room_now, step_more}
+use Rattle.scan.proofs.Written.{counted}
+use Rattle.scan.proofs.Row.{AfterSteps, no_steps, holds_now, step_more}
 use Rattle.scan.proofs.mark.mark_row.Given as goal
 
 -- The row so far, where grid₀ has the mark of its first walker and new₀ counts that cell if it was unmarked.

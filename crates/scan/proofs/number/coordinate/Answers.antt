@@ -1,5 +1,4 @@
 -- `coordinate` meets its contract: a byte fits an i64.
-use borrow.Author.Rules.{rules}
 use native.Mathlib.Omega.{arith}
 use Rattle.scan.proofs.Natural.{natural_read}
 use Rattle.scan.proofs.number.coordinate.Goals as goal

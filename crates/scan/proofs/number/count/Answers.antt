@@ -1,5 +1,4 @@
 -- `count` meets its contract: a u32 fits an i64.
-use borrow.Author.Rules.{rules}
 use native.Mathlib.Omega.{arith}
 use Rattle.scan.proofs.Natural.{natural_read}
 use Rattle.scan.proofs.number.count.Goals as goal

@@ -1,5 +1,4 @@
 -- `cubed` meets its contract: 512 × 512 × 512 fits.
-use borrow.Author.Rules.{rules}
 use lib.Dec.{lit<}
 use lib.IntN.{pos}
 use Rattle.cubic.proofs.Fits.{Holds, read, mul, mul_fits}

@@ -1,5 +1,4 @@
 -- `doubled` meets its contract: twice a byte fits.
-use borrow.Author.Rules.{rules}
 use Prim.Native.Nat.{◌≤◌}
 use native.Mathlib.Omega.{arith}
 use lib.Dec.{lit<}

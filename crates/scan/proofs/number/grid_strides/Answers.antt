@@ -1,5 +1,4 @@
 -- `grid_strides` meets its contract: 64 × 64 fits.
-use borrow.Author.Rules.{rules}
 use lib.Dec.{lit<}
 use lib.IntN.{pos}
 use Rattle.cubic.proofs.Fits.{Holds, read, mul, mul_fits}

@@ -1,5 +1,4 @@
 -- `start_through` meets its contract: what `start` is given are the count and twice the coordinates, which leave room.
-use borrow.Author.Rules.{rules}
 use mathlib.Core.Path.{◌≡◌}
 use mathlib.Core.List.{List}
 use Prim.Native.Nat.{ℕ, ◌*◌, ◌<◌}

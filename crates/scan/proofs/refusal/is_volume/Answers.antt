@@ -1,5 +1,4 @@
 -- `is_volume` meets its contract: up to 2642245 the cube of the side fits, and above that no length is as large.
-use borrow.Author.Rules.{rules}
 use borrow.Author.Tests.{ne_eqb}
 use mathlib.Core.Path.{sym}
 use native.Mathlib.Nat.{mul-le-mul}

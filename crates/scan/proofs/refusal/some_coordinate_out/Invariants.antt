@@ -1,14 +1,10 @@
 -- `some_coordinate_out` meets its contract: no coordinate that was passed is out, and the first that is ends the search.
-use borrow.Author.Rules.{rules}
-use borrow.Author.Count.{below_more}
 use mathlib.Core.Logic.{⊎_elim}
-use mathlib.Core.Path.{sym}
 use Prim.Native.Nat.{ℕ, ◌≤◌, ◌<◌, ◌-◌}
 use native.Mathlib.Omega.{arith}
 use lib.Dec.{T}
 use lib.ListN.{length, get_or}
-use Rattle.decide.proofs.Truth.{decided, true_of, false_of}
-use Rattle.decide.proofs.Some.{some_of_lem}
+use Rattle.decide.proofs.Truth.{decided}
 use Rattle.drawing.specs.Refusals.{coordinate_out}
 use Rattle.drawing.proofs.Accepted.{coordinate_in}
 use Rattle.scan.proofs.refusal.some_coordinate_out.Given as goal

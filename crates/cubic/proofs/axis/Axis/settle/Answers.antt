@@ -1,17 +1,14 @@
 -- `Axis::settle` meets its contract: the sums of a move fit, and the tests are those of the definition.
-use mathlib.Core.Path.{◌≡◌, ap, ◌∙◌}
+use mathlib.Core.Path.{◌≡◌, ◌∙◌}
 use mathlib.Core.Bool.{Bool, true, false}
 use Prim.Native.Nat.{◌+◌, ◌^◌}
-use borrow.Author.Rules.{rules}
 use lib.Dec.{lit<}
 use lib.IntN.{ℤ, pos, ◌+ℤ◌, ◌-ℤ◌}
 use lib.Signed.{lt_z, le_z}
-use mir.Syntax.{w64}
-use mir.Val.{to_z}
 use Rattle.cubic.specs.declared.axis.Axis.{Axis}
 use Rattle.cubic.specs.Axis.{settle_of}
 use Rattle.cubic.specs.Room.{Settles}
-use Rattle.cubic.proofs.Fits.{Holds, read, literal, held, add, sub, sub_fits, fitting}
+use Rattle.cubic.proofs.Fits.{Holds, read, literal, held, add, sub}
 use Rattle.cubic.proofs.axis.Axis.settle.Goals as goal
 use Rattle.cubic.proofs.axis.Axis.settle.Goals.{then-rem-scale, else-rem-scale+then-rem-low, else-rem-scale+else-rem-low}
 

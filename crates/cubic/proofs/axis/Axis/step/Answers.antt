@@ -1,7 +1,6 @@
 -- `Axis::step` meets its contract: one addition keeps the fields within twice their bound, so the decision has room.
 use mathlib.Core.Path.{◌≡◌}
 use Prim.Native.Nat.{◌^◌}
-use borrow.Author.Rules.{rules}
 use lib.Dec.{lit<}
 use lib.IntN.{ℤ}
 use Rattle.integers.proofs.Magnitude.{within_add}
