@@ -1,6 +1,7 @@
 -- `list_path` meets its contract: the verdict is the check's and then that of the list's length, and an accepted path is listed.
-use Rattle.std.proofs.Common.{◌≡◌, ℕ, ◌*◌, ◌≤◌, Bool, true, false, ltb, [], length, sym, refl, ap, ◌∙◌, ⊎_elim, arith, rules, ltb-false, le-ltb}
+use Rattle.std.proofs.Common.{◌≡◌, ℕ, ◌*◌, ◌<◌, ◌≤◌, Bool, false, ltb, [], length, sym, refl, ap, ◌∙◌, arith, le-ltb}
 use Rattle.decide.specs.Refusal.{Verdict, accepted, refused, gives, outcome}
+use Rattle.decide.proofs.Truth.{less, true_of}
 use Rattle.decide.proofs.Refusal.{append_refused, append_passes, first_applies, first_passes, first_empty, answer_given, answer_refused}
 use Rattle.drawing.specs.Object.{Object}
 use Rattle.drawing.specs.Refusals.{order, check_verdict}
@@ -13,6 +14,7 @@ use Rattle.curve.specs.Curve.{curve_of, check_answer_of}
 use Rattle.path.specs.Path.{path_length, path_list_verdict, path_listing}
 use Rattle.path.proofs.OfCurve.{path_at_most}
 use Rattle.path.proofs.list_path.Goals as goal
+use Rattle.path.proofs.list_path.Goals.{else-list-most-via-then-list-most+else-list-count_cells, else-list-most-via-else-list-most}
 
 -- The check comes first, then the list's length.
 module _ (S : ℕ) (o : Object) (len : ℕ) where
@@ -21,9 +23,11 @@ module _ (S : ℕ) (o : Object) (len : ℕ) where
   check_refused e = append_refused (order S o false false false) _ e
 
   module _ (e : check_verdict S o ≡ accepted) where
-    too_short : ltb len (3 * path_length o) ≡ true → path_list_verdict S len o ≡ refused 22
+    too_short : len < 3 * path_length o → path_list_verdict S len o ≡ refused 22
     unfolding check_verdict path_list_verdict
-    too_short t = append_passes (order S o false false false) _ e ∙ first_applies 22 (ltb len (3 * path_length o)) [] t
+    too_short h =
+        append_passes (order S o false false false) _ e ∙
+        first_applies 22 (ltb len (3 * path_length o)) [] (true_of _ ((less len (3 * path_length o)).1 h))
 
     long_enough : 3 * path_length o ≤ len → path_list_verdict S len o ≡ accepted
     unfolding check_verdict path_list_verdict
@@ -50,7 +54,13 @@ returns-then-list-count_cells c =
 pub list_cells-requires : goal.list_cells-requires
 list_cells-requires c = record {
   curve_value = passed c.check_curve.result _ _ c.in_default.not-Refused c.check_curve.ensures;
-  curve_in_bounds = ?;
+  curve_in_bounds =
+      let n : Curve = c.args.curve in
+      elim c.else-list-most.branch [
+        else-list-most-via-then-list-most+else-list-count_cells w ↦ omega (arith, w.count_cells.ensures, w.if-list-count_cells.false)
+      | else-list-most-via-else-list-most w ↦
+          omega (arith, w.if-list-most.false, path_at_most n.steps n.points n.mark n.choice)
+      ];
 }
 
 pub returns-in-Refused : goal.returns-in-Refused
@@ -64,8 +74,15 @@ returns-else-list-most c =
     let S = c.args.side in
     let n : Curve = c.args.curve in
     let list = c.args.list.now in
+    let room : 3 * path_length (curve_of n) ≤ length list =
+    elim c.else-list-most.branch [
+      else-list-most-via-then-list-most+else-list-count_cells w ↦ omega (arith, w.count_cells.ensures, w.if-list-count_cells.false)
+    | else-list-most-via-else-list-most w ↦
+        omega (arith, w.if-list-most.false, path_at_most n.steps n.points n.mark n.choice)
+    ] in
     let e =
-    long_enough S (curve_of n) (length list) (passed c.check_curve.result _ _ c.in_default.not-Refused c.check_curve.ensures) ? in
+    long_enough S (curve_of n) (length list) (passed c.check_curve.result _ _ c.in_default.not-Refused c.check_curve.ensures)
+    room in
     record {
       answer = rw e (ap gives c.list_cells.ensures.value);
       leaves = c.list_cells.ensures.list_after ∙ sym (listed_accepted (path_listing S (curve_of n)) list e);
