@@ -5,7 +5,7 @@ use Rattle.decide.specs.declared.Verdict as found
 use Rattle.decide.specs.declared.Verdict.TheVariants.{Accepted, Refused}
 use Rattle.decide.specs.Verdict.{verdict_of}
 use Rattle.cube.specs.Cube.{volume}
-use Rattle.drawing.specs.Refusals.{count_out, steps_too_long, order, draw_verdict}
+use Rattle.drawing.specs.Refusals.{count_out, steps_too_long, draw_verdict}
 use Rattle.drawing.proofs.Drawn.{drawn_accepted}
 use Rattle.scan.proofs.Orders.{draw_judged, draws_refused, draws_accepted}
 use Rattle.scan.specs.Refusals.{before_steps}
