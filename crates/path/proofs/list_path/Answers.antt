@@ -57,9 +57,9 @@ list_cells-requires c = record {
   curve_in_bounds =
       let n : Curve = c.args.curve in
       elim c.else-list-most.branch [
-        else-list-most-via-then-list-most+else-list-count_cells w ↦ omega (arith, w.count_cells.ensures, w.if-list-count_cells.false)
-      | else-list-most-via-else-list-most w ↦
-          omega (arith, w.if-list-most.false, path_at_most n.steps n.points n.mark n.choice)
+        | else-list-most-via-then-list-most+else-list-count_cells w ↦ omega (arith, w.count_cells.ensures, w.if-list-count_cells.false)
+        | else-list-most-via-else-list-most w ↦
+            omega (arith, w.if-list-most.false, path_at_most n.steps n.points n.mark n.choice)
       ];
 }
 
@@ -76,9 +76,9 @@ returns-else-list-most c =
     let list = c.args.list.now in
     let room : 3 * path_length (curve_of n) ≤ length list =
     elim c.else-list-most.branch [
-      else-list-most-via-then-list-most+else-list-count_cells w ↦ omega (arith, w.count_cells.ensures, w.if-list-count_cells.false)
-    | else-list-most-via-else-list-most w ↦
-        omega (arith, w.if-list-most.false, path_at_most n.steps n.points n.mark n.choice)
+      | else-list-most-via-then-list-most+else-list-count_cells w ↦ omega (arith, w.count_cells.ensures, w.if-list-count_cells.false)
+      | else-list-most-via-else-list-most w ↦
+          omega (arith, w.if-list-most.false, path_at_most n.steps n.points n.mark n.choice)
     ] in
     let e =
     long_enough S (curve_of n) (length list) (passed c.check_curve.result _ _ c.in_default.not-Refused c.check_curve.ensures)
