@@ -1,16 +1,15 @@
 -- `list_path` meets its contract: the verdict is the check's and then that of the list's length, and an accepted path is listed.
-use Rattle.std.proofs.Common.{◌≡◌, ℕ, ◌*◌, ◌<◌, ◌≤◌, Bool, false, ltb, [], length, sym, refl, ap, ◌∙◌, arith, le-ltb}
-use Rattle.decide.specs.Refusal.{Verdict, accepted, refused, gives, outcome}
+use Rattle.std.proofs.Common.{◌≡◌, ℕ, ◌*◌, ◌<◌, ◌≤◌, false, ltb, [], length, sym, ap, ◌∙◌, arith, le-ltb}
+use Rattle.decide.specs.Refusal.{accepted, refused, gives}
 use Rattle.decide.proofs.Truth.{less, true_of}
-use Rattle.decide.proofs.Refusal.{append_refused, append_passes, first_applies, first_passes, first_empty, answer_given, answer_refused}
+use Rattle.decide.proofs.Refusal.{append_refused, append_passes, first_applies, first_passes, first_empty, answer_refused}
 use Rattle.drawing.specs.Object.{Object}
 use Rattle.drawing.specs.Refusals.{order, check_verdict}
 use Rattle.drawing.proofs.Listed.{listed_accepted}
 use Rattle.scan.proofs.Orders.{lists_refused}
 use Rattle.curve.specs.declared.Curve.{Curve}
-use Rattle.curve.specs.declared.CheckAnswer.{CheckAnswer}
-use Rattle.curve.specs.declared.CheckAnswer.TheVariants.{Walked, Quit, Refused}
 use Rattle.curve.specs.Curve.{curve_of, check_answer_of}
+use Rattle.curve.proofs.Answers.{not_refused}
 use Rattle.path.specs.Path.{path_length, path_list_verdict, path_listing}
 use Rattle.path.proofs.OfCurve.{path_at_most}
 use Rattle.path.proofs.list_path.Goals as goal
@@ -35,25 +34,18 @@ module _ (S : ℕ) (o : Object) (len : ℕ) where
         append_passes (order S o false false false) _ e ∙
         first_passes 22 (ltb len (3 * path_length o)) [] (le-ltb len (3 * path_length o) h) ∙ first_empty
 
--- Past the check.
-passed : (r : CheckAnswer) (v : Verdict) (quit : Bool) → ((k : ℕ) → ¬ (r ≡ Refused k)) → check_answer_of r ≡ outcome v quit →
-    v ≡ accepted
-passed Walked v quit n e = (answer_given v quit e).0
-passed Quit v quit n e = (answer_given v quit e).0
-passed (Refused k) v quit n e = absurd (n k refl)
-
 pub count_cells-requires : goal.count_cells-requires
-count_cells-requires c = passed c.check_curve.result _ _ c.in_default.not-Refused c.check_curve.ensures
+count_cells-requires c = not_refused c.check_curve.result _ _ c.in_default.not-Refused c.check_curve.ensures
 
 pub returns-then-list-count_cells : goal.returns-then-list-count_cells
 returns-then-list-count_cells c =
     lists_refused (path_listing c.args.side (curve_of c.args.curve)) c.args.list.now
-    (too_short _ _ _ (passed c.check_curve.result _ _ c.in_default.not-Refused c.check_curve.ensures)
+    (too_short _ _ _ (not_refused c.check_curve.result _ _ c.in_default.not-Refused c.check_curve.ensures)
     (rw c.count_cells.ensures at c.if-list-count_cells.true))
 
 pub list_cells-requires : goal.list_cells-requires
 list_cells-requires c = record {
-  curve_value = passed c.check_curve.result _ _ c.in_default.not-Refused c.check_curve.ensures;
+  curve_value = not_refused c.check_curve.result _ _ c.in_default.not-Refused c.check_curve.ensures;
   curve_in_bounds =
       let n : Curve = c.args.curve in
       elim c.else-list-most.branch [
@@ -81,7 +73,7 @@ returns-else-list-most c =
           omega (arith, w.if-list-most.false, path_at_most n.steps n.points n.mark n.choice)
     ] in
     let e =
-    long_enough S (curve_of n) (length list) (passed c.check_curve.result _ _ c.in_default.not-Refused c.check_curve.ensures)
+    long_enough S (curve_of n) (length list) (not_refused c.check_curve.result _ _ c.in_default.not-Refused c.check_curve.ensures)
     room in
     record {
       answer = rw e (ap gives c.list_cells.ensures.value);
