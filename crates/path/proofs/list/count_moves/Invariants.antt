@@ -1,25 +1,19 @@
 -- `count_moves` meets its contract: after i steps the axis is at sample i, and the moves up to it are counted.
-use Rattle.std.proofs.Common.{◌≡◌, ℕ, suc, ◌+◌, ◌-◌, ◌<◌, ◌≤◌, Bool, List, length, get_or, pos, sym, refl, ap, ◌∙◌, subst, ap₂, add-one, arith, lit<, lit≤, rules}
+use Rattle.std.proofs.Common.{◌≡◌, ℕ, suc, ◌+◌, ◌-◌, ◌<◌, ◌≤◌, Bool, List, length, get_or, pos, sym, refl, ap, ◌∙◌, subst, ap₂, arith}
 use mir.Val.{bool_byte}
-use Rattle.integers.proofs.Magnitude.{within_pos}
 use Rattle.cube.specs.Cube.{Axis, x_axis, y_axis, z_axis, Cell}
 use Rattle.drawing.specs.Object.{offset, scale_of}
 use Rattle.drawing.specs.Refusals.{Drawable}
-use Rattle.drawing.proofs.Accepted.{check_accepted}
 use Rattle.cubic.specs.declared.axis.Axis as machine
 use Rattle.cubic.specs.Axis.{start_of, step_of}
 use Rattle.cubic.specs.Differences.{differences_at}
-use Rattle.cubic.specs.Room.{Steps}
 use Rattle.cubic.specs.Tracks.{Tracks}
-use Rattle.cubic.proofs.Fits.{read}
 use Rattle.scan.specs.Walker.{axis_of, stride_of, list_strides}
-use Rattle.scan.proofs.Samples.{axis_next, axis_steps, position, list_stride_is}
+use Rattle.scan.proofs.Samples.{axis_next, position, list_stride_is}
 use Rattle.scan.proofs.Written.{counted}
-use Rattle.scan.proofs.Axes.{axis_numbered}
 use Rattle.curve.specs.declared.Curve.{Curve}
 use Rattle.curve.specs.Curve.{curve_of}
 use Rattle.curve.specs.Machine.{doubled_along, start_walker}
-use Rattle.curve.proofs.Along.{drawable_in_limits, scale_small, scale_held}
 use Rattle.curve.proofs.Begin.{start_at, curve_row, list_row}
 use Rattle.path.specs.Path.{move_of, over_steps}
 use Rattle.path.specs.Step.{moves_next}

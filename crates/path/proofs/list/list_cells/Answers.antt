@@ -1,5 +1,5 @@
 -- `list_cells` meets its contract: after i steps the walker stands at sample i, and the path up to there is listed.
-use Rattle.std.proofs.Common.{◌≡◌, ℕ, ◌<◌, length, refl, add-one, arith, lit<, rules}
+use Rattle.std.proofs.Common.{◌≡◌, length, refl, add-one, arith, lit<, rules}
 use Rattle.cube.specs.Cube.{x_axis, y_axis, z_axis}
 use Rattle.drawing.proofs.Accepted.{check_accepted}
 use Rattle.scan.specs.Walker.{cell_of_walker}

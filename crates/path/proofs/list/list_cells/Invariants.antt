@@ -1,11 +1,10 @@
 -- `list_cells` meets its contract: after i steps the walker stands at sample i, and the path up to there is listed.
-use Rattle.std.proofs.Common.{◌≡◌, ℕ, suc, ◌+◌, ◌-◌, ◌*◌, ◌<◌, ◌≤◌, Bool, List, [], ◌++◌, length, drop, ℤ, pos, sym, refl, ap, ◌∙◌, subst, append_assoc, add-one, arith, lit<, length-append, rules}
+use Rattle.std.proofs.Common.{◌≡◌, ℕ, suc, ◌+◌, ◌-◌, ◌*◌, ◌<◌, ◌≤◌, Bool, List, [], ◌++◌, length, drop, ℤ, pos, sym, refl, ap, ◌∙◌, subst, append_assoc, arith, lit<, length-append}
 use lib.Seq.{sets, length-sets}
 use Rattle.cube.specs.Cube.{Axis, x_axis, y_axis, z_axis, Cell}
 use Rattle.drawing.specs.Object.{offset}
 use Rattle.drawing.specs.Refusals.{Drawable}
 use Rattle.drawing.specs.Drawing.{bytes, cells}
-use Rattle.drawing.proofs.Accepted.{check_accepted}
 use Rattle.cubic.specs.declared.axis.Axis as machine
 use Rattle.cubic.specs.Axis.{step_of}
 use Rattle.cubic.specs.Room.{Steps}
@@ -16,12 +15,11 @@ use Rattle.scan.proofs.Samples.{At, along, list_stride_is}
 use Rattle.curve.specs.declared.Curve.{Curve}
 use Rattle.curve.specs.Curve.{curve_of}
 use Rattle.curve.specs.Machine.{doubled_along}
-use Rattle.curve.proofs.Along.{drawable_in_limits}
 use Rattle.path.specs.Path.{moved, move, moves, path, path_length}
 use Rattle.path.specs.Step.{moves_next, Moving}
 use Rattle.path.proofs.OfCurve as curves
 use Rattle.path.proofs.Stands.{stands_byte, stands_cell}
-use Rattle.path.proofs.Steps.{cell, N, Setting, in_list, AtSample, at_0, inside, stands, room, may_move, tells, stepped}
+use Rattle.path.proofs.Steps.{cell, N, Setting, in_list, AtSample, inside, stands, room, may_move, tells, stepped}
 use Rattle.path.proofs.Steps.{inside_x, inside_y, inside_z, at_x, at_y, at_z, tells_x, tells_y, tells_z, at_next_sample}
 use Rattle.path.proofs.Listing.{Listed, RoomFor, room_before, rest_kept, first_listed, Asks, Says, leg_asks, leg_listed}
 use Rattle.path.proofs.list.list_cells.Given as goal

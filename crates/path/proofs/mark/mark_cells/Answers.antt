@@ -1,16 +1,14 @@
 -- `mark_cells` meets its contract: after i steps the walker stands at sample i, and the path up to there is marked.
-use Rattle.std.proofs.Common.{◌≡◌, ℕ, suc, ◌+◌, ◌-◌, ◌*◌, ◌<◌, ◌≤◌, Bool, cond, not, eqb, List, [], ◌∷◌, ◌++◌, map, length, get_or, ℤ, pos, sym, refl, ap, ◌∙◌, add-one, arith, lit<, length-append, length-set, rules}
-use mathlib.Core.List.{map-append}
+use Rattle.std.proofs.Common.{◌≡◌, ℕ, suc, ◌+◌, ◌*◌, ◌<◌, ◌≤◌, Bool, cond, not, eqb, List, [], ◌∷◌, ◌++◌, map, length, get_or, ℤ, pos, sym, refl, ap, ◌∙◌, add-one, arith, lit<, length-append, length-set, rules}
 use mir.Val.{bool_byte}
 use Rattle.cube.specs.Cube.{Axis, x_axis, y_axis, z_axis, Cell, Inside, place, volume}
 use Rattle.cube.proofs.Places.{place_below}
 use Rattle.drawing.specs.declared.Choice.{Choice}
-use Rattle.drawing.specs.Object.{offset}
 use Rattle.drawing.specs.Refusals.{Drawable}
 use Rattle.drawing.specs.Drawing.{marked, cells}
 use Rattle.drawing.specs.NewCells.{unmarked_cells}
 use Rattle.drawing.proofs.Accepted.{draw_accepted}
-use Rattle.drawing.proofs.Marked.{marked_at, marked_append}
+use Rattle.drawing.proofs.Marked.{marked_at}
 use Rattle.drawing.proofs.NewCells.{unmarked_at_most}
 use Rattle.cubic.specs.declared.axis.Axis as machine
 use Rattle.cubic.specs.Axis.{step_of}
@@ -21,7 +19,7 @@ use Rattle.scan.specs.declared.walker.Strides.{Strides}
 use Rattle.scan.specs.declared.walker.Walker.{Walker}
 use Rattle.scan.specs.Walker.{axis_of, stride_of, grid_strides, HasPlace, place_of}
 use Rattle.scan.proofs.Natural.{cube_grows}
-use Rattle.scan.proofs.Samples.{At, along, grid_stride, grid_small}
+use Rattle.scan.proofs.Samples.{grid_stride, grid_small}
 use Rattle.scan.proofs.Written.{counted, one_more}
 use Rattle.curve.specs.declared.Curve.{Curve}
 use Rattle.curve.specs.Curve.{curve_of}
@@ -30,7 +28,7 @@ use Rattle.curve.proofs.Along.{drawable_in_limits}
 use Rattle.path.specs.Path.{moved, move, moves, path, path_length}
 use Rattle.path.specs.Step.{moves_next, Moving}
 use Rattle.path.proofs.OfCurve as curves
-use Rattle.path.proofs.Stands.{Stands, stands_place, stands_has_place}
+use Rattle.path.proofs.Stands.{Stands, stands_place}
 use Rattle.path.proofs.Steps.{cell, N, Setting, in_grid, AtSample, at_0, inside, stands, room, may_move, tells, stepped}
 use Rattle.path.proofs.Steps.{inside_x, inside_y, inside_z, at_x, at_y, at_z, tells_x, tells_y, tells_z, at_next_sample}
 use Rattle.path.proofs.Legs.{Leg, leg_append, leg_length, leg_of}
