@@ -1,13 +1,9 @@
 -- The verdict of a call with a curve, where v is what came before the step test and t what the test of the curve told.
 use mathlib.Core.Path.{◌≡◌, refl, sym}
 use mathlib.Core.Bool.{Bool, true, false}
-use mathlib.Core.Logic.{⊎_elim}
-use mathlib.Core.List.{[], ◌∷◌}
 use Prim.Native.Nat.{ℕ}
 use native.Mathlib.Omega.{arith}
 use lib.ListN.{length}
-use denote.Enum.Declared.{tag_of}
-use types.Run.{OneOf}
 use Rattle.decide.specs.Some.{some_of}
 use Rattle.decide.specs.Refusal.{accepted, refused, first_that}
 use Rattle.decide.specs.declared.Verdict as found
@@ -25,13 +21,12 @@ use Rattle.curve.specs.declared.steps.StepTest.{StepTest}
 use Rattle.curve.specs.declared.steps.StepTest.TheVariants.{Walked, Quit, TooLong}
 use Rattle.curve.specs.Curve.{curve_of, tells_long}
 use Rattle.curve.specs.Machine.{InLimits}
-use Rattle.curve.specs.contracts.steps.StepTest.{the_type}
 
 -- The arm of both answers that find no long step.
-pub not_long : (t : StepTest) → OneOf (0 ∷ 1 ∷ []) (tag_of the_type t) → tells_long t ≡ false
+pub not_long : (t : StepTest) → ¬ (t ≡ TooLong) → tells_long t ≡ false
 not_long Walked arm = refl
 not_long Quit arm = refl
-not_long TooLong arm = absurd (⊎_elim (λ z. omega (arith, z)) (λ z. omega (arith, z)) arm)
+not_long TooLong arm = absurd (arm refl)
 
 module _ (S : ℕ) (c : Curve) (g m l : Bool) (v : found.Verdict)
     (e : verdict_of v ≡ first_that (before_steps S c.points g m (count_out 512 c.steps) l)) where

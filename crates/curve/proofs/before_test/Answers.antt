@@ -1,5 +1,4 @@
 -- `before_test` meets its contract: the tests of all that comes before the step test, with that of the step count.
-use borrow.Author.Rules.{rules}
 use Rattle.curve.proofs.before_test.Goals as goal
 
 pub returns : goal.returns

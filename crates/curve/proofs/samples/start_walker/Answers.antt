@@ -12,7 +12,6 @@ start_axis-requires c =
       small_stride = small_read (s.requires.small_strides.on x_axis);
     }
 
-
 pub start_axis-requires-2 : goal.start_axis-requires-2
 start_axis-requires-2 c =
     let s = c in record {
@@ -21,7 +20,6 @@ start_axis-requires-2 c =
       small_stride = small_read (s.requires.small_strides.on y_axis);
     }
 
-
 pub start_axis-requires-3 : goal.start_axis-requires-3
 start_axis-requires-3 c =
     let s = c in record {
@@ -29,7 +27,6 @@ start_axis-requires-3 c =
       a_bound = lit< tt;
       small_stride = small_read (s.requires.small_strides.on z_axis);
     }
-
 
 pub returns : goal.returns
 returns c =

@@ -1,5 +1,4 @@
 -- `cubic_along` meets its contract: the four coordinates of the axis are a column.
-use borrow.Author.Rules.{rules}
 use Rattle.curve.proofs.Along.{along_column}
 use Rattle.curve.proofs.steps.cubic_along.Goals as goal
 

@@ -1,20 +1,9 @@
 -- `long_between` meets its contract: no step that was passed is too long, and the first that is ends the search.
-use borrow.Author.Rules.{rules}
-use borrow.Author.Count.{below_more}
-use mathlib.Core.Path.{◌≡◌, refl, sym, ◌∙◌, ap}
+use mathlib.Core.Path.{◌≡◌}
 use mathlib.Core.Bool.{false}
 use Prim.Native.Nat.{ℕ, ◌-◌, ◌≤◌, ◌<◌}
-use native.Mathlib.Numerals.{add-one}
-use native.Mathlib.Omega.{arith}
-use lib.Dec.{lit<}
-use Rattle.cubic.specs.Differences.{differences_at, next_of}
-use Rattle.cubic.proofs.Closed.{samples_cubic}
-use Rattle.cubic.proofs.Next.{next_differences}
-use Rattle.cubic.proofs.Fits.{held}
-use Rattle.curve.specs.declared.Curve.{Curve}
+use Rattle.cubic.specs.Differences.{differences_at}
 use Rattle.curve.specs.Machine.{doubled_along, long_at}
-use Rattle.curve.proofs.Along.{scale_held, along_room}
-use Rattle.curve.proofs.Search.{between_found, between_nowhere}
 use Rattle.curve.proofs.steps.long_between.Given as goal
 
 abbrev pub invariant-loop-curve : goal.invariant-loop-curve

@@ -1,5 +1,4 @@
 -- `test_steps` meets its contract: where the test quits no step is too long; where it does not, the walk decides.
-use borrow.Author.Rules.{rules}
 use mathlib.Core.Path.{sym, ◌∙◌}
 use Rattle.gaps.proofs.Quits.{quits_short}
 use Rattle.curve.proofs.steps.test_steps.Goals as goal
