@@ -1,5 +1,4 @@
 -- `is_count_out` meets its contract: one count or the other.
-use borrow.Author.Rules.{rules}
 use mathlib.Core.Path.{sym, ◌∙◌}
 use Rattle.decide.specs.Some.{some_of}
 use Rattle.decide.proofs.Some.{some_of_one}

@@ -1,34 +1,20 @@
 -- `verdict` meets its contract: what comes before the step test, and then the step test, which is asked within its limits.
 use borrow.Author.Rules.{rules}
-use mathlib.Core.Path.{◌≡◌, sym, ◌∙◌}
-use mathlib.Core.Bool.{Bool, false}
+use mathlib.Core.Path.{sym, ◌∙◌}
+use mathlib.Core.Bool.{false}
 use native.Mathlib.Omega.{arith}
 use lib.Dec.{lit<}
-use Rattle.decide.specs.Some.{some_of}
-use Rattle.drawing.specs.Refusals.{count_out}
 use Rattle.drawing.proofs.Accepted.{counts_in}
 use Rattle.scan.proofs.Orders.{refused_before, past_tests, refused_long, accepted_short}
 use Rattle.patch.specs.Patch.{patch_of}
 use Rattle.patch.proofs.verdict.Goals as goal
-use Rattle.patch.proofs.verdict.Goals.{After-before_steps, Start}
-
-module _ (c : After-before_steps) where
-  abbrev s : Start
-  s = c.before
-
-  abbrev out : Bool
-  out = c.is_count_out-count_out.result
-
-  counted : out ≡ some_of (count_out 256) (patch_of s.args.patch).counts
-  counted = c.is_count_out-count_out.ensures
 
 pub step_too_long-requires : goal.step_too_long-requires
 step_too_long-requires c =
-    let b = c in
-    let p = past_tests (s b).args.side (patch_of (s b).args.patch) (s b).args.grid_wrong (s b).args.mark_wrong
-    false (out b) (counted b) b.before_steps.result b.before_steps.ensures
+    let p = past_tests c.args.side (patch_of c.args.patch) c.args.grid_wrong c.args.mark_wrong
+    false c.is_count_out-count_out.result c.is_count_out-count_out.ensures c.before_steps.result c.before_steps.ensures
     c.in-Accepted.is in
-    let n = (counts_in 256 (patch_of (s b).args.patch).counts).0 (sym (counted b) ∙ p.count_in) in
+    let n = (counts_in 256 (patch_of c.args.patch).counts).0 (sym c.is_count_out-count_out.ensures ∙ p.count_in) in
     record {
       n_least = n.0 0 (lit< tt);
       n_most = n.1 0 (lit< tt);
@@ -40,23 +26,18 @@ step_too_long-requires c =
 
 pub returns-in-Refused : goal.returns-in-Refused
 returns-in-Refused c =
-    let b = c in
-    refused_before (s b).args.side (patch_of (s b).args.patch) (s b).args.grid_wrong (s b).args.mark_wrong
-    false (out b) (counted b) b.before_steps.result b.before_steps.ensures
+    refused_before c.args.side (patch_of c.args.patch) c.args.grid_wrong c.args.mark_wrong
+    false c.is_count_out-count_out.result c.is_count_out-count_out.ensures c.before_steps.result c.before_steps.ensures
     c.in-Refused.is
 
 pub returns-then-step_too_long : goal.returns-then-step_too_long
 returns-then-step_too_long c =
-    let t = c in
-    let b = t in
-    refused_long (s b).args.side (patch_of (s b).args.patch) (s b).args.grid_wrong (s b).args.mark_wrong
-    false (out b) (counted b) b.before_steps.result b.before_steps.ensures
-    t.in-Accepted.is c.step_too_long.ensures c.if-step_too_long.true
+    refused_long c.args.side (patch_of c.args.patch) c.args.grid_wrong c.args.mark_wrong
+    false c.is_count_out-count_out.result c.is_count_out-count_out.ensures c.before_steps.result c.before_steps.ensures
+    c.in-Accepted.is c.step_too_long.ensures c.if-step_too_long.true
 
 pub returns-else-step_too_long : goal.returns-else-step_too_long
 returns-else-step_too_long c =
-    let t = c in
-    let b = t in
-    accepted_short (s b).args.side (patch_of (s b).args.patch) (s b).args.grid_wrong (s b).args.mark_wrong
-    false (out b) (counted b) b.before_steps.result b.before_steps.ensures
-    t.in-Accepted.is c.step_too_long.ensures c.if-step_too_long.false
+    accepted_short c.args.side (patch_of c.args.patch) c.args.grid_wrong c.args.mark_wrong
+    false c.is_count_out-count_out.result c.is_count_out-count_out.ensures c.before_steps.result c.before_steps.ensures
+    c.in-Accepted.is c.step_too_long.ensures c.if-step_too_long.false

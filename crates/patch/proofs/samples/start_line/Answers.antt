@@ -1,7 +1,7 @@
 -- `start_line` meets its contract: the walk along u starts in the cell of point 0.
 use borrow.Author.Rules.{rules}
 use mathlib.Core.Path.{◌≡◌}
-use Prim.Native.Nat.{◌≤◌}
+use Prim.Native.Nat.{ℕ, ◌≤◌, ◌<◌}
 use native.Mathlib.Omega.{arith}
 use lib.IntN.{ℤ, pos}
 use lib.ListN.{get_or}
@@ -11,31 +11,29 @@ use Rattle.surface.specs.declared.Surface.{Surface}
 use Rattle.scan.proofs.Natural.{answer_read, stride_read}
 use Rattle.rows.specs.declared.Line.{Line}
 use Rattle.rows.specs.Lines.{start_line}
+use Rattle.patch.specs.declared.Patch.{Patch}
+use Rattle.patch.specs.Machine.{InLimits}
 use Rattle.patch.proofs.samples.start_line.Goals as goal
-use Rattle.patch.proofs.samples.start_line.Goals.{After-coordinate, Start}
 
 -- With the stride, the point and the surface as the code holds them.
 started : {g h p q : ℤ} {s t : Surface} {r : Line} → g ≡ h → p ≡ q → s ≡ t → r ≡ start_line g p s → r ≡ start_line h q t
 started e f g q = rw (e, f, g) at q
 
--- The coordinate, as it is read back, is below 64.
-module _ (c : After-coordinate) where
-  abbrev s : Start
-  s = c.before
+-- A coordinate is below 64.
+below : {p : Patch} {a : ℕ} → InLimits p → a < 3 → get_or p.points a 0 ≤ 63
+below {a = a} l h = l.coordinates a (rw l.forty_eight (omega (arith, h)))
 
-  below : get_or s.args.patch.points s.args.a 0 ≤ 63
-  below = s.requires.in_limits.coordinates s.args.a (rw s.requires.in_limits.forty_eight (omega (arith, s.requires.a_bound)))
-
-  point : read c.coordinate.result ≡ pos (get_or s.args.patch.points s.args.a 0)
-  point = answer_read c.coordinate.ensures (omega (arith, below))
+-- The coordinate, as it is read back.
+point : {p : Patch} {a : ℕ} {r : ℤ} → InLimits p → a < 3 → r ≡ pos (get_or p.points a 0) → read r ≡ pos (get_or p.points a 0)
+point l h e = answer_read e (omega (arith, below l h))
 
 pub start-requires : goal.start-requires
 start-requires c =
-    let b = c in
-    rw (stride_read (s b).requires.small_stride, point b)
-    (record { stride = (s b).requires.small_stride; point = within_pos (omega (arith, below b)) })
+    let r = c.requires in
+    rw (stride_read r.small_stride, point r.in_limits r.a_bound c.coordinate.ensures)
+    (record { stride = r.small_stride; point = within_pos (omega (arith, below r.in_limits r.a_bound)) })
 
 pub returns : goal.returns
 returns c =
-    let b = c in
-    started (stride_read (s b).requires.small_stride) (point b) c.start_surface.ensures c.start.ensures
+    let r = c.requires in
+    started (stride_read r.small_stride) (point r.in_limits r.a_bound c.coordinate.ensures) c.start_surface.ensures c.start.ensures

@@ -6,6 +6,4 @@ use Rattle.patch.proofs.Along.{face_is}
 use Rattle.patch.proofs.start.start_surface.Goals as goal
 
 pub returns : goal.returns
-returns c =
-    let s = c in
-    c.start_surface.ensures ∙ ap (λ P. surface_of P 0) (face_is s.args.patch s.args.a)
+returns c = c.start_surface.ensures ∙ ap (λ P. surface_of P 0) (face_is c.args.patch c.args.a)

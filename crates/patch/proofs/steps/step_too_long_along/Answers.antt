@@ -25,10 +25,8 @@ module _ {p : Patch} (l : InLimits p) {a : â„•} (h : a < 3) {s : Surface} {r : â
 
 pub step_too_long-requires : goal.step_too_long-requires
 step_too_long-requires c =
-    let s = c in can_search s.requires.in_limits s.requires.a_bound c.start_surface.ensures c.scale-scale.ensures
+    can_search c.requires.in_limits c.requires.a_bound c.start_surface.ensures c.scale-scale.ensures
 
 pub returns : goal.returns
 returns c =
-    let b = c in
-    let s = b in
-    searched s.requires.in_limits s.requires.a_bound b.start_surface.ensures b.scale-scale.ensures c.step_too_long.ensures
+    searched c.requires.in_limits c.requires.a_bound c.start_surface.ensures c.scale-scale.ensures c.step_too_long.ensures
