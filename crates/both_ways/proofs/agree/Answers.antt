@@ -5,17 +5,13 @@ use Rattle.both_ways.proofs.agree.Goals as goal
 
 pub returns-then-n-m : goal.returns-then-n-m
 returns-then-n-m c =
-    let one = c.one-1.given in
-    let other = c.other-1.given in
     let r = c.is_reversed.ensures in
-    rw (one.1, other.1) (λ t. (c.if-n-m.true, r.0 t), λ a. r.1 a.1)
+    rw (c.in-Accepted.is, c.in-Accepted-other.is) (λ t. (c.if-n-m.true, r.0 t), λ a. r.1 a.1)
 
 pub returns-else-n-m : goal.returns-else-n-m
 returns-else-n-m c =
-    let one = c.one-1.given in
-    let other = c.other-1.given in
-    let e = equal one.0.0 other.0.0 in
-    rw (one.1, other.1) (λ t. absurd (c.if-n-m.false (e.0 t)), λ a. absurd (c.if-n-m.false a.0))
+    let e = equal c.in-Accepted.n c.in-Accepted-other.m in
+    rw (c.in-Accepted.is, c.in-Accepted-other.is) (λ t. absurd (c.if-n-m.false (e.0 t)), λ a. absurd (c.if-n-m.false a.0))
 
 pub returns-in-Refused-other : goal.returns-in-Refused-other
 returns-in-Refused-other c = rw (c.in-Accepted.is, c.in-Refused-other.is) (λ t. t, λ a. a)
@@ -24,7 +20,4 @@ pub returns-in-Accepted-other-2 : goal.returns-in-Accepted-other-2
 returns-in-Accepted-other-2 c = rw (c.in-Refused.is, c.in-Accepted-other-2.is) (λ t. t, λ a. a)
 
 pub returns-in-Refused-other-2 : goal.returns-in-Refused-other-2
-returns-in-Refused-other-2 c =
-    let one = c.one-in-Refused-one-1.given in
-    let other = c.other-in-Refused-1.given in
-    rw (one.1, other.1) (equal _ _)
+returns-in-Refused-other-2 c = rw (c.in-Refused.is, c.in-Refused-other-2.is) (equal _ _)

@@ -1,6 +1,5 @@
 -- `is_reversed` meets its contract: every cell that was passed is the other's, and the first that is not ends the search.
 use borrow.Author.Count.{below_more}
-use borrow.Author.Tests.{not-true, not-false}
 use mathlib.Core.Path.{◌≡◌, sym, subst}
 use Prim.Native.Nat.{ℕ, ◌+◌, ◌*◌, ◌-◌, ◌≤◌, ◌<◌}
 use native.Mathlib.Omega.{arith}
@@ -38,7 +37,7 @@ returns-then-not-same_cell c =
     let s = c.args in
     let i = c.loop-i.i in
     let tested = c.same_cell in
-    let other = subst T (not-true tested.result c.if-not-same_cell.true) in
+    let other = subst T c.if-not-same_cell.true in
     (λ t. absurd t, λ r. other (tested.ensures.1 (r.cells i (s.count - 1 - i) (omega arith))))
 
 pub overflow_add-i : goal.overflow_add-i
@@ -52,7 +51,7 @@ loop-i-preserved c =
     let s = c.args in
     let l = c.loop-i in
     let tested = c.same_cell in
-    let same = tested.ensures.0 (subst T (sym (not-false tested.result c.if-not-same_cell.false)) tt) in
+    let same = tested.ensures.0 (subst T (sym c.if-not-same_cell.false) tt) in
     let here : (k : ℕ) → l.i + k + 1 ≡ s.count → SameCell _ (3 * l.i) _ (3 * k) =
     λ k h. let last : s.count - 1 - l.i ≡ k = omega arith in rw last at same in
     (l.invariant.0, l.invariant.1, omega arith, below_more _ _ l.invariant.3 here)

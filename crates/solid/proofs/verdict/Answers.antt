@@ -1,34 +1,21 @@
 -- `verdict` meets its contract: what comes before the step test, and then the step test, which is asked within its limits.
 use borrow.Author.Rules.{rules}
 use mathlib.Core.Path.{◌≡◌, sym, ◌∙◌}
-use mathlib.Core.Bool.{Bool, false}
+use mathlib.Core.Bool.{false}
 use native.Mathlib.Omega.{arith}
 use lib.Dec.{lit<}
-use Rattle.decide.specs.Some.{some_of}
-use Rattle.drawing.specs.Refusals.{count_out}
 use Rattle.drawing.proofs.Accepted.{counts_in}
 use Rattle.scan.proofs.Orders.{refused_before, past_tests, refused_long, accepted_short}
 use Rattle.solid.specs.Solid.{solid_of}
 use Rattle.solid.proofs.verdict.Goals as goal
-use Rattle.solid.proofs.verdict.Goals.{After-before_steps, Start}
-
-module _ (c : After-before_steps) where
-  abbrev s : Start
-  s = c.before
-
-  abbrev out : Bool
-  out = c.is_count_out-count_out.result
-
-  counted : out ≡ some_of (count_out 32) (solid_of s.args.solid).counts
-  counted = c.is_count_out-count_out.ensures
 
 pub step_too_long-requires : goal.step_too_long-requires
 step_too_long-requires c =
-    let b = c in
-    let p = past_tests (s b).args.side (solid_of (s b).args.solid) (s b).args.grid_wrong (s b).args.mark_wrong
-    false (out b) (counted b) b.before_steps.result b.before_steps.ensures
-    c.in-Accepted.is in
-    let n = (counts_in 32 (solid_of (s b).args.solid).counts).0 (sym (counted b) ∙ p.count_in) in
+    let s = c.args.solid in
+    let out = c.is_count_out-count_out in
+    let p = past_tests c.args.side (solid_of s) c.args.grid_wrong c.args.mark_wrong
+    false out.result out.ensures c.before_steps.result c.before_steps.ensures c.in-Accepted.is in
+    let n = (counts_in 32 (solid_of s).counts).0 (sym out.ensures ∙ p.count_in) in
     record {
       n_least = n.0 0 (lit< tt);
       n_most = n.1 0 (lit< tt);
@@ -42,23 +29,18 @@ step_too_long-requires c =
 
 pub returns-in-Refused : goal.returns-in-Refused
 returns-in-Refused c =
-    let b = c in
-    refused_before (s b).args.side (solid_of (s b).args.solid) (s b).args.grid_wrong (s b).args.mark_wrong
-    false (out b) (counted b) b.before_steps.result b.before_steps.ensures
+    refused_before c.args.side (solid_of c.args.solid) c.args.grid_wrong c.args.mark_wrong
+    false c.is_count_out-count_out.result c.is_count_out-count_out.ensures c.before_steps.result c.before_steps.ensures
     c.in-Refused.is
 
 pub returns-then-step_too_long : goal.returns-then-step_too_long
 returns-then-step_too_long c =
-    let t = c in
-    let b = t in
-    refused_long (s b).args.side (solid_of (s b).args.solid) (s b).args.grid_wrong (s b).args.mark_wrong
-    false (out b) (counted b) b.before_steps.result b.before_steps.ensures
-    t.in-Accepted.is c.step_too_long.ensures c.if-step_too_long.true
+    refused_long c.args.side (solid_of c.args.solid) c.args.grid_wrong c.args.mark_wrong
+    false c.is_count_out-count_out.result c.is_count_out-count_out.ensures c.before_steps.result c.before_steps.ensures
+    c.in-Accepted.is c.step_too_long.ensures c.if-step_too_long.true
 
 pub returns-else-step_too_long : goal.returns-else-step_too_long
 returns-else-step_too_long c =
-    let t = c in
-    let b = t in
-    accepted_short (s b).args.side (solid_of (s b).args.solid) (s b).args.grid_wrong (s b).args.mark_wrong
-    false (out b) (counted b) b.before_steps.result b.before_steps.ensures
-    t.in-Accepted.is c.step_too_long.ensures c.if-step_too_long.false
+    accepted_short c.args.side (solid_of c.args.solid) c.args.grid_wrong c.args.mark_wrong
+    false c.is_count_out-count_out.result c.is_count_out-count_out.ensures c.before_steps.result c.before_steps.ensures
+    c.in-Accepted.is c.step_too_long.ensures c.if-step_too_long.false

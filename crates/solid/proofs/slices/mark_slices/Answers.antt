@@ -1,190 +1,153 @@
 -- `mark_slices` meets its contract: before slice k the grid has the marks of the slices before it, and has lost as many unmarked
 -- cells as are counted.
 use borrow.Author.Rules.{rules}
-use mathlib.Core.Path.{◌≡◌, refl, sym, ◌∙◌, ap}
-use mathlib.Core.List.{List}
-use Prim.Native.Nat.{ℕ, suc, ◌+◌, ◌-◌, ◌≤◌, ◌<◌, zero-le}
+use mathlib.Core.Path.{◌≡◌, sym, ◌∙◌, ap}
+use mathlib.Core.List.{List, map}
+use Prim.Native.Nat.{ℕ, suc, ◌+◌, ◌≤◌, ◌<◌}
 use native.Mathlib.Numerals.{add-one}
 use native.Mathlib.Omega.{arith}
-use lib.IntN.{pos}
+use lib.IntN.{ℤ, pos}
 use lib.ListN.{length}
+use Rattle.decide.specs.Refusal.{accepted}
 use Rattle.cube.specs.Cube.{volume}
 use Rattle.drawing.specs.Object.{scale_of}
-use Rattle.drawing.specs.Refusals.{Drawable}
+use Rattle.drawing.specs.Refusals.{Drawable, draw_verdict}
 use Rattle.drawing.specs.Drawing.{marked}
 use Rattle.drawing.specs.NewCells.{unmarked_cells}
 use Rattle.drawing.proofs.Accepted.{draw_accepted}
-use Rattle.drawing.proofs.Marked.{marked_append, length_marked}
 use Rattle.drawing.proofs.NewCells.{unmarked_at_most}
 use Rattle.cubic.proofs.Fits.{read}
-use Rattle.scan.specs.Walker.{grid_strides}
+use Rattle.scan.specs.declared.walker.Strides.{Strides}
+use Rattle.scan.specs.Walker.{grid_strides, place_of}
 use Rattle.scan.proofs.Natural.{cube_grows}
 use Rattle.scan.proofs.Samples.{grid_small}
-use Rattle.rows.specs.Lines.{RowsOnGrid}
+use Rattle.rows.specs.declared.Lines.{Lines}
+use Rattle.rows.specs.Lines.{rows_of_walkers}
 use Rattle.solid.specs.declared.Solid.{Solid}
 use Rattle.solid.specs.declared.slices.Blocks.{Blocks}
 use Rattle.solid.specs.Solid.{solid_of}
+use Rattle.solid.specs.Blocks.{slice_lines}
 use Rattle.solid.proofs.Along.{drawable_in_limits, scale_read}
-use Rattle.solid.proofs.Sliced.{Limited, OnSlice, places, slice_places, earlier, with_slice, drawn_slices}
+use Rattle.solid.proofs.Sliced.{Limited, places, drawn_slices}
 use Rattle.solid.proofs.Sliced.{blocks_start, room_for_next, next_is, room_for_slice, slice_marks}
 use Rattle.solid.proofs.slices.mark_slices.Invariants.{SliceDone, SoFar, first_so_far, slice_done}
 use Rattle.solid.proofs.slices.mark_slices.Goals as goal
-use Rattle.solid.proofs.slices.mark_slices.Goals.{After-mark_rows-new_cells, After-scale-scale, After-slice-lines, Else-k-solid, Start}
 
-module _ (c : Start  where
-  abbrev solid : Solid
-  solid = c.args.solid
+-- What an accepted solid is.
+record Accepted (S : ℕ) (s : Solid) (g : List ℕ) : Type 0 where
+  drawable : Drawable S (solid_of s)
+  limits : Limited s
+  volume_is : length g ≡ volume S
+  marks : 1 ≤ s.mark
 
-  drawable : Drawable c.args.side (solid_of solid)
-  drawable = ((draw_accepted c.args.side (solid_of solid) _).0 c.requires).0
-
-  limits : Limited solid
-  limits = drawable_in_limits solid (search rules) drawable
-
-  volume_is : length c.args.grid.now ≡ volume c.args.side
-  volume_is = ((draw_accepted c.args.side (solid_of solid) _).0 c.requires).1
-
-  marks : 1 ≤ solid.mark
-  marks = ((draw_accepted c.args.side (solid_of solid) _).0 c.requires).2
-
--- The scale, as it is read back.
-scale_is : (c : After-scale-scale  →
-    read c.scale-scale.result ≡ pos (scale_of (solid_of (solid c.before)))
-scale_is c = scale_read (limits c.before) c.scale-scale.ensures
+accepted_is : {S : ℕ} (s : Solid) {g : List ℕ} → length s.points ≡ 192 →
+    draw_verdict S (length g) (solid_of s) ≡ accepted → Accepted S s g
+accepted_is {S} s {g} all_points e =
+    let p = (draw_accepted S (solid_of s) (length g)).0 e in record {
+      drawable = p.0;
+      limits = drawable_in_limits s all_points p.0;
+      volume_is = p.1;
+      marks = p.2;
+    }
 
 pub grid_strides-h-requires : goal.grid_strides-h-requires
-grid_strides-h-requires c = (drawable c.before).side_most
+grid_strides-h-requires c = (accepted_is c.args.solid (search rules) c.requires).drawable.side_most
 
 pub scale-scale-requires : goal.scale-scale-requires
-scale-scale-requires c = let l = limits c.before in (l.n_most, l.m_most, l.l_most)
+scale-scale-requires c =
+    let l = (accepted_is c.args.solid (search rules) c.requires).limits in (l.n_most, l.m_most, l.l_most)
 
 pub start_blocks-blocks-requires : goal.start_blocks-blocks-requires
 start_blocks-blocks-requires c =
-    let b = c in
-    let s = b in
+    let a = accepted_is c.args.solid (search rules) c.requires in
     record {
-      in_limits = limits s;
-      small_strides = rw b.grid_strides-h.ensures (grid_small (drawable s).side_most);
+      in_limits = a.limits;
+      small_strides = rw c.grid_strides-h.ensures (grid_small a.drawable.side_most);
     }
-
 
 pub loop-k-init : goal.loop-k-init
 loop-k-init c =
-    let b = c in
-    let s = b in
-    first_so_far s.args.side (solid s)
-    (blocks_start (solid s) (limits s) (drawable s) (scale_is b) b.grid_strides-h.ensures c.start_blocks-blocks.ensures)
-    (volume_is s)
+    let a = accepted_is c.args.solid (search rules) c.requires in
+    first_so_far c.args.side c.args.solid
+    (blocks_start c.args.solid a.limits a.drawable
+    (scale_read a.limits c.scale-scale.ensures) c.grid_strides-h.ensures c.start_blocks-blocks.ensures)
+    a.volume_is
 
--- In the loop, once the slice has its lines.
-module _ (r : After-slice-lines  where
-  abbrev base : After-scale-scale 
-  base = r.before
-
-  abbrev start : Start 
-  start = base.before
-
-  abbrev so_far :
-      SoFar start.args.side (solid start) start.args.grid.now r.loop-k.grid r.loop-k.blocks
-      r.loop-k.new_cells r.loop-k.k
-  so_far = r.loop-k.invariant
-
-  -- What its rows ask for.
-  asked :
-      RowsOnGrid (solid start).n (solid start).m (read base.scale-scale.result) base.grid_strides-h.result r.slice-lines.result
-      (length r.loop-k.grid) ×
-      ((((solid start).n ≤ 512) × (length r.loop-k.grid ≤ 262144)) × (1 ≤ (solid start).mark))
-  asked = (
-    room_for_slice (solid start) (limits start) (drawable start) (scale_is base) base.grid_strides-h.ensures
-        so_far.on_slice r.slice-lines.ensures so_far.within so_far.size,
-    ((omega (arith, (limits start).n_most), omega (arith, so_far.size, cube_grows (drawable start).side_most)), marks start),
-  )
+-- A slice is done, with the scale N, the strides h and the lines as the code holds them.
+done : {S : ℕ} {s : Solid} {g grid grid' : List ℕ} {blocks : Blocks} {new k : ℕ} {N : ℤ} {h : Strides} {lines : Lines} (more : ℕ) →
+    Accepted S s g → SoFar S s g grid blocks new k → N ≡ pos (scale_of (solid_of s)) → h ≡ grid_strides S →
+    lines ≡ slice_lines blocks → grid' ≡ marked s.choice s.mark (map place_of (rows_of_walkers s.n s.m N h lines)) grid →
+    more + unmarked_cells grid' ≡ unmarked_cells grid → SliceDone S s g grid' (new + more) k
+done {S} {s} {grid = grid} more a f e i q m one =
+    slice_done S s more f (slice_marks s a.limits a.drawable e i f.on_slice q f.within grid m) one
 
 pub mark_rows-new_cells-requires : goal.mark_rows-new_cells-requires
-mark_rows-new_cells-requires c = asked c.before
-
--- After the slice.
-module _ (c : After-mark_rows-new_cells  where
-  abbrev here : After-slice-lines 
-  here = c.before
-
-  done :
-      SliceDone (start here).args.side (solid (start here)) (start here).args.grid.now
-      c.mark_rows-new_cells.new.1.1.1.1.1.1.1.0 (here.loop-k.new_cells + c.mark_rows-new_cells.result) here.loop-k.k
-  done =
-      let s = start here in
-      slice_done s.args.side (solid s) c.mark_rows-new_cells.result (so_far here)
-      (slice_marks (solid s) (limits s) (drawable s) (scale_is (base here)) (base here).grid_strides-h.ensures
-      (so_far here).on_slice here.slice-lines.ensures (so_far here).within here.loop-k.grid c.mark_rows-new_cells.ensures.grid_after_2)
-      c.mark_rows-new_cells.ensures.grid_after
+mark_rows-new_cells-requires c =
+    let a = accepted_is c.args.solid (search rules) c.requires in
+    let f = c.loop-k.invariant in
+    record {
+      rows_on_grid =
+          room_for_slice c.args.solid a.limits a.drawable (scale_read a.limits c.scale-scale.ensures)
+          c.grid_strides-h.ensures f.on_slice c.slice-lines.ensures f.within f.size;
+      n_bound = (omega (arith, a.limits.n_most), omega (arith, f.size, cube_grows a.drawable.side_most));
+      le_mark = a.marks;
+    }
 
 -- New cells are cells of the grid at the start, at most 64 × 64 × 64.
 pub overflow_add-new_cells : goal.overflow_add-new_cells
 overflow_add-new_cells c =
-    let m = c in
-    let s = start (here m) in
+    let a = accepted_is c.args.solid (search rules) c.requires in
+    let d = done c.mark_rows-new_cells.result a c.loop-k.invariant (scale_read a.limits c.scale-scale.ensures)
+        c.grid_strides-h.ensures c.slice-lines.ensures c.mark_rows-new_cells.ensures.grid_after_2
+        c.mark_rows-new_cells.ensures.grid_after in
     record {
-      fits = omega (
-        arith,
-        (done m).fewer,
-        unmarked_at_most s.args.grid.now,
-        volume_is s,
-        cube_grows (drawable s).side_most,
-      );
+      fits = omega (arith, d.fewer, unmarked_at_most c.args.grid.now, a.volume_is, cube_grows a.drawable.side_most);
     }
 
 -- Before the last slice.
-module _ (c : Else-k-solid  where
-  abbrev marked-slice : After-mark_rows-new_cells 
-  marked-slice = c.before
-
-  abbrev slice : After-slice-lines 
-  slice = here marked-slice
-
-  before_last : slice.loop-k.k < (solid (start slice)).l
-  before_last = omega (arith, (so_far slice).within, c.if-k-solid.false)
-
 pub next-blocks-requires : goal.next-blocks-requires
 next-blocks-requires c =
-    let r = slice c in
-    let s = start r in
-    room_for_next (solid s) (limits s) (drawable s) (scale_is (base r)) (base r).grid_strides-h.ensures
-    (so_far r).on_slice (before_last c)
+    let a = accepted_is c.args.solid (search rules) c.requires in
+    room_for_next c.args.solid a.limits a.drawable (scale_read a.limits c.scale-scale.ensures)
+    c.grid_strides-h.ensures c.loop-k.invariant.on_slice (omega (arith, c.loop-k.invariant.within))
 
 pub overflow_add-k : goal.overflow_add-k
-overflow_add-k c = record { fits = omega (arith, before_last c.before, (limits (start (slice c.before))).l_most) }
+overflow_add-k c =
+    let a = accepted_is c.args.solid (search rules) c.requires in
+    record { fits = omega (arith, c.loop-k.invariant.within, a.limits.l_most) }
 
 pub loop-k-smaller : goal.loop-k-smaller
-loop-k-smaller c = omega (arith, before_last c.before)
+loop-k-smaller c = omega (arith, c.loop-k.invariant.within)
 
 pub loop-k-preserved : goal.loop-k-preserved
 loop-k-preserved c =
-    let r = slice c.before in
-    let s = start r in
-    let d = done (marked-slice c.before) in
+    let f = c.loop-k.invariant in
+    let before_last : c.loop-k.k < c.args.solid.l = omega (arith, f.within) in
+    let a = accepted_is c.args.solid (search rules) c.requires in
+    let e = scale_read a.limits c.scale-scale.ensures in
+    let d = done c.mark_rows-new_cells.result a f e
+        c.grid_strides-h.ensures c.slice-lines.ensures c.mark_rows-new_cells.ensures.grid_after_2
+        c.mark_rows-new_cells.ensures.grid_after in
     rw add-one
     (record {
-      within = before_last c.before;
+      within = before_last;
       on_slice =
-          next_is (solid s) (limits s) (drawable s) (scale_is (base r)) (base r).grid_strides-h.ensures
-          (so_far r).on_slice c.next-blocks.ensures (before_last c.before);
+          next_is c.args.solid a.limits a.drawable e c.grid_strides-h.ensures f.on_slice c.next-blocks.ensures before_last;
       marks = d.marks;
       size = d.size;
       fewer = d.fewer;
     })
 
-pub shape_of-grid : goal.shape_of-grid
-shape_of-grid c =
-    let m = c in (done m).size ∙ sym (volume_is (start (here m)))
-
 pub returns : goal.returns
 returns c =
-    let m = c in
-    let s = start (here m) in
-    let d = done m in record {
+    let s = c.args.solid in
+    let a = accepted_is c.args.solid (search rules) c.requires in
+    let d = done c.mark_rows-new_cells.result a c.loop-k.invariant (scale_read a.limits c.scale-scale.ensures)
+        c.grid_strides-h.ensures c.slice-lines.ensures c.mark_rows-new_cells.ensures.grid_after_2
+        c.mark_rows-new_cells.ensures.grid_after in
+    record {
       grid_after = d.fewer;
-      grid_after_2 = d.marks ∙
-          ap (λ k. marked (solid s).choice (solid s).mark (places s.args.side (solid s) k) s.args.grid.now) c.if-k-solid.true ∙
-          sym (drawn_slices s.args.side (solid s) s.args.grid.now s.requires);
+      grid_after_2 =
+          d.marks ∙ ap (λ k. marked s.choice s.mark (places c.args.side s k) c.args.grid.now) c.if-k-solid.true ∙
+          sym (drawn_slices c.args.side s c.args.grid.now c.requires);
     }
-
