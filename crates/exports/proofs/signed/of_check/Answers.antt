@@ -9,12 +9,11 @@ use Rattle.exports.proofs.Small.{count_small, small_read}
 use Rattle.exports.proofs.signed.of_check.Goals as goal
 
 pub returns-in-Walked : goal.returns-in-Walked
-returns-in-Walked c = (sym (ap (λ a. signed_of (quit_of (check_answer_of a))) c.enum_told-1.given.1), count_small (lit< tt))
+returns-in-Walked c = (sym (ap (λ a. signed_of (quit_of (check_answer_of a))) c.in-Walked.is), count_small (lit< tt))
 
 pub returns-in-Quit : goal.returns-in-Quit
-returns-in-Quit c = (sym (ap (λ a. signed_of (quit_of (check_answer_of a))) c.enum_told-in-Quit-1.given.1), count_small (lit< tt))
+returns-in-Quit c = (sym (ap (λ a. signed_of (quit_of (check_answer_of a))) c.in-Quit.is), count_small (lit< tt))
 
 pub returns-in-Refused : goal.returns-in-Refused
 returns-in-Refused c =
-    let k = c.answer-1.given in
-    small_read (c.refused.ensures.0 ∙ sym (ap (λ a. signed_of (quit_of (check_answer_of a))) k.1)) c.refused.ensures.1
+    small_read (c.refused.ensures.0 ∙ sym (ap (λ a. signed_of (quit_of (check_answer_of a))) c.in-Refused.is)) c.refused.ensures.1

@@ -8,10 +8,8 @@ use Rattle.exports.proofs.signed.of_listing.Goals as goal
 
 pub returns-in-Accepted : goal.returns-in-Accepted
 returns-in-Accepted c =
-    let k = c.answer-1.given in
-    small_read (c.accepted.ensures.0 ∙ sym (ap (λ a. signed_of (list_answer_of a)) k.1)) c.accepted.ensures.1
+    small_read (c.accepted.ensures.0 ∙ sym (ap (λ a. signed_of (list_answer_of a)) c.in-Accepted.is)) c.accepted.ensures.1
 
 pub returns-in-Refused : goal.returns-in-Refused
 returns-in-Refused c =
-    let k = c.answer-in-Refused-1.given in
-    small_read (c.refused.ensures.0 ∙ sym (ap (λ a. signed_of (list_answer_of a)) k.1)) c.refused.ensures.1
+    small_read (c.refused.ensures.0 ∙ sym (ap (λ a. signed_of (list_answer_of a)) c.in-Refused.is)) c.refused.ensures.1

@@ -8,9 +8,8 @@ use Rattle.exports.proofs.Small.{count_small, small_read}
 use Rattle.exports.proofs.signed.of_verdict.Goals as goal
 
 pub returns-in-Accepted : goal.returns-in-Accepted
-returns-in-Accepted c = (sym (ap (λ v. signed (verdict_of v) 0) c.enum_told-1.given.1), count_small (lit< tt))
+returns-in-Accepted c = (sym (ap (λ v. signed (verdict_of v) 0) c.in-Accepted.is), count_small (lit< tt))
 
 pub returns-in-Refused : goal.returns-in-Refused
 returns-in-Refused c =
-    let k = c.verdict-1.given in
-    small_read (c.refused.ensures.0 ∙ sym (ap (λ v. signed (verdict_of v) 0) k.1)) c.refused.ensures.1
+    small_read (c.refused.ensures.0 ∙ sym (ap (λ v. signed (verdict_of v) 0) c.in-Refused.is)) c.refused.ensures.1

@@ -15,7 +15,7 @@ small c = omega (arith, c.ranges.number)
 pub overflow_sub-result : goal.overflow_sub-result
 overflow_sub-result c =
     let h = natural_held c.count.ensures (small c) (lit< tt) in
-    search (sub_fits (literal 0) h (lit< tt), sub_fits h (literal 0) (lit< tt))
+    search (sub_fits (literal 0) h (lit< tt))
 
 pub returns : goal.returns
 returns c =
