@@ -1,5 +1,4 @@
 -- `cells` meets its contract: 40 × 40 × 40 fits.
-use borrow.Author.Rules.{rules}
 use native.Mathlib.Nat.{mul-le-mul}
 use native.Mathlib.Omega.{arith}
 use Rattle.sheet_cube.proofs.cells.Goals as goal

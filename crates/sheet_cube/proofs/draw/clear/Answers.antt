@@ -1,12 +1,8 @@
 -- `clear` meets its contract: the bytes before the present one are 0.
-use borrow.Author.Rules.{rules}
 use mathlib.Core.Path.{◌≡◌, refl, sym, ◌∙◌, ap}
-use mathlib.Core.List.{List, [], ◌∷◌, ◌++◌}
-use Prim.Native.Nat.{ℕ, ◌+◌, ◌-◌, ◌≤◌, ◌<◌}
 use native.Mathlib.Omega.{arith}
-use native.Mathlib.Numerals.{add-one}
-use lib.ListN.{length, take, set, length-set, replicate, replicate-append-replicate}
-use lib.Seq.{take_all, take-suc-set}
+use lib.ListN.{length, length-set, replicate}
+use lib.Seq.{take_all}
 use Rattle.sheet_cube.proofs.draw.clear.Invariants.{one_more}
 use Rattle.sheet_cube.proofs.draw.clear.Goals as goal
 

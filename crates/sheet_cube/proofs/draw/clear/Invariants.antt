@@ -1,12 +1,10 @@
 -- `clear` meets its contract: the bytes before the present one are 0.
-use borrow.Author.Rules.{rules}
-use mathlib.Core.Path.{◌≡◌, refl, sym, ◌∙◌, ap}
+use mathlib.Core.Path.{◌≡◌, ◌∙◌, ap}
 use mathlib.Core.List.{List, [], ◌∷◌, ◌++◌}
 use Prim.Native.Nat.{ℕ, ◌+◌, ◌-◌, ◌≤◌, ◌<◌}
-use native.Mathlib.Omega.{arith}
 use native.Mathlib.Numerals.{add-one}
-use lib.ListN.{length, take, set, length-set, replicate, replicate-append-replicate}
-use lib.Seq.{take_all, take-suc-set}
+use lib.ListN.{length, take, set, replicate, replicate-append-replicate}
+use lib.Seq.{take-suc-set}
 use Rattle.sheet_cube.proofs.draw.clear.Given as goal
 
 -- One more is cleared.

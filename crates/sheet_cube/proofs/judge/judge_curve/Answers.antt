@@ -1,5 +1,4 @@
 -- `judge_curve` meets its contract: a line that fits is judged by its curve, another by what does not fit.
-use borrow.Author.Rules.{rules}
 use mathlib.Core.Path.{◌≡◌, refl, sym, ◌∙◌, ap}
 use mathlib.Core.Bool.{Bool, true, false, not}
 use mathlib.Core.List.{List}

@@ -1,5 +1,4 @@
 -- `judge_sheet` meets its contract: line 1 is refused, or the curve lines decide.
-use borrow.Author.Rules.{rules}
 use mathlib.Core.Path.{sym, ap, subst}
 use Rattle.sheet_lines.specs.Read.{first_line}
 use Rattle.sheet_cube.specs.Lines.{found, SideOf}
@@ -8,11 +7,10 @@ use Rattle.sheet_cube.proofs.judge.judge_sheet.Goals as goal
 
 pub judge_curves-requires : goal.judge_curves-requires
 judge_curves-requires c =
-    let j = c in
-    subst (SideOf (first_line j.args.input.now)) c.in-Good.is j.judge_side.ensures
+    let side = subst (SideOf (first_line c.args.input.now)) c.in-Good.is c.judge_side.ensures in
+    record { input_value = side.0; side_value = side.1 }
 
 pub returns-in-Refused : goal.returns-in-Refused
 returns-in-Refused c =
-    let j = c in
-    let input = j.args.input.now in
-    sym (ap found (side_refused input (subst (SideOf (first_line input)) c.in-Refused.is j.judge_side.ensures)))
+    let input = c.args.input.now in
+    sym (ap found (side_refused input (subst (SideOf (first_line input)) c.in-Refused.is c.judge_side.ensures)))

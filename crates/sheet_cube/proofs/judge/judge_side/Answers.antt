@@ -1,5 +1,4 @@
 -- `judge_side` meets its contract: the side, or the first number of line 1's order that applies.
-use borrow.Author.Rules.{rules}
 use mathlib.Core.Path.{◌≡◌, sym, ◌∙◌}
 use mathlib.Core.Bool.{Bool, true, not}
 use mathlib.Core.List.{List}

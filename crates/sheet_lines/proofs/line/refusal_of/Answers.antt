@@ -5,15 +5,12 @@ use Rattle.sheet_lines.proofs.line.refusal_of.Goals as goal
 
 pub returns : goal.returns
 returns c =
-    let n = c in
-    let m = n in
-    let b = m in
     c.first_of.ensures ∙
     rw (
-      b.some_bad-bad.ensures,
-      m.is_mark_out-mark_out.ensures,
-      m.number_at.ensures,
-      n.is_count_out-count_out.ensures,
-      n.number_at-2.ensures,
+      c.some_bad-bad.ensures,
+      c.is_mark_out-mark_out.ensures,
+      c.number_at.ensures,
+      c.is_count_out-count_out.ensures,
+      c.number_at-2.ensures,
     )
     (refusal_read _)
