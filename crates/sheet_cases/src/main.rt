@@ -28,8 +28,8 @@ use cases::digest::{Digest, begun, eight, extended};
 use cases::input::{read_bytes, read_heading};
 use cases::record::number;
 use cases::turns::Turns;
-use std::io::{Stdin, Stdout};
 use sheet_cube::Answer;
+use std::io::{Stdin, Stdout};
 
 fn main(rt: HostRuntime) {
     let mut buffer = [0u8; 65536];
@@ -85,7 +85,14 @@ fn answer_case(
     if sheet.len() < count {
         return Progress::Failed;
     }
-    answer_lent(input, output, heading, &mut sheet[..count], text, &mut buffer[..lent])
+    answer_lent(
+        input,
+        output,
+        heading,
+        &mut sheet[..count],
+        text,
+        &mut buffer[..lent],
+    )
 }
 
 // Reads the sheet and answers it.

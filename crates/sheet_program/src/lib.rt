@@ -70,7 +70,11 @@ pub fn run(input: Stdin, output: Stdout, errors: Stderr, name: &[u8], report: Re
     }
     let count = read.count;
     if !print_sheet(output, &sheet[..count], report) {
-        tell(errors, name, b": the output cannot be written, or not all of it\n");
+        tell(
+            errors,
+            name,
+            b": the output cannot be written, or not all of it\n",
+        );
     }
 }
 

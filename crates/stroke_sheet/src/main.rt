@@ -5,5 +5,11 @@
 use sheet_program::Report;
 
 fn main(rt: HostRuntime) {
-    sheet_program::run(rt.stdin(), rt.stdout(), rt.stderr(), b"stroke_sheet", Report::Listing);
+    sheet_program::run(
+        rt.stdin(),
+        rt.stdout(),
+        rt.stderr(),
+        b"stroke_sheet",
+        Report::Listing,
+    );
 }

@@ -20,9 +20,9 @@ ghost use Rattle.std.specs.Float.Ieee.{of_bits, to_bits};
 
 use cases::block::Progress;
 use cases::turns::Turns;
-use std::io::{Stdin, Stdout};
 use channel::Rgb;
 use hsv::Hsv;
+use std::io::{Stdin, Stdout};
 use swatch::{CellAnswer, HalfWayAnswer, Swatch};
 
 // An answer's letter and numbers, which are written in hexadecimal or in decimal digits.

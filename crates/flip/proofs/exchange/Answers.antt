@@ -14,7 +14,6 @@ put_points-requires c =
       numbers_value = rw long.0 refl;
     }
 
-
 pub returns : goal.returns
 unfolding exchanged
 returns c = c.put_points.ensures

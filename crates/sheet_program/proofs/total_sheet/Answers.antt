@@ -44,7 +44,6 @@ put_totals-requires c =
       in_bounds = omega (arith, (start k).requires.in_bounds, ap length kept);
     }
 
-
 pub returns-in-Cube : goal.returns-in-Cube
 returns-in-Cube c =
     let p = c in

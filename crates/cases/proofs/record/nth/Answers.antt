@@ -10,4 +10,3 @@ returns c =
       result_value = rw width refl;
       result_len = simp (length-take, length-drop) (omega arith);
     }
-

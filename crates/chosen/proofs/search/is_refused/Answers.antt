@@ -11,10 +11,9 @@ use Rattle.chosen.proofs.search.is_refused.Goals as goal
 
 pub long_between-requires : goal.long_between-requires
 long_between-requires c = record {
-      in_limits = c.requires;
-      from_le_to = (lit≤ tt, lit≤ tt);
-    }
-
+  in_limits = c.requires;
+  from_le_to = (lit≤ tt, lit≤ tt);
+}
 
 pub returns-then-is_last_long : goal.returns-then-is_last_long
 returns-then-is_last_long c =

@@ -21,4 +21,3 @@ returns c =
       channels_len_unchanged = rw (length-set, length-set, length-set, length-set) refl;
       channels_after = four_bytes c.args.channels.now c.args.at _ _ _ _ c.requires.at_in_bounds;
     }
-

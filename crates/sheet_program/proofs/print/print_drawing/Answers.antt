@@ -45,7 +45,6 @@ print_listing-requires c =
       in_bounds = omega (arith, (start k).requires.in_bounds, ap length kept);
     }
 
-
 pub slice_bounds-write_all-end : goal.slice_bounds-write_all-end
 slice_bounds-write_all-end c =
     (refused c.draw_or_refuse.ensures c.bytes-1.given.1).within

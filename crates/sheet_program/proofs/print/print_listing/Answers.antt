@@ -20,7 +20,6 @@ list_planes-listed-requires c =
       in_bounds = omega (arith, s.requires.in_bounds, c.loop-z.invariant.1);
     }
 
-
 pub slice_bounds-write_all-end : goal.slice_bounds-write_all-end
 slice_bounds-write_all-end c =
     let l = c.list_planes-listed.ensures in omega (arith, l.fits, l.size)

@@ -9,4 +9,3 @@ returns-then-goes_on c =
       less = search rules;
       stops = ap (λ (more : Bool). cond more (left - 1) 0) (sym c.if-goes_on.true ∙ c.goes_on.ensures);
     }
-
