@@ -7,25 +7,22 @@ use native.Mathlib.Nat.{le_trans, mul-le-mul}
 use native.Mathlib.Omega.{arith}
 use lib.Dec.{lit≤, lit<}
 use lib.IntN.{ℤ, pos}
-use lib.ListN.{length, get_or}
+use lib.ListN.{length}
 use Rattle.integers.proofs.Magnitude.{within_pos}
 use Rattle.bezier.specs.Exact.{scale, no_index, index, no_corner, first}
 use Rattle.decide.specs.Refusal.{accepted}
 use Rattle.neighbours.specs.Steps.{later, first as step, too_long}
 use Rattle.cube.specs.Cube.{Axis, x_axis, y_axis, z_axis, volume, place}
-use Rattle.drawing.specs.declared.Choice.{Choice}
 use Rattle.drawing.specs.Object.{offset, coordinate, scale_of, exact, cell_of}
 use Rattle.drawing.specs.Refusals.{Drawable, draw_verdict}
-use Rattle.drawing.specs.Drawing.{row, rows, samples, marked, cells, drawn_by, drawn}
+use Rattle.drawing.specs.Drawing.{rows, samples, marked, cells, drawn_by, drawn}
 use Rattle.drawing.proofs.Samples.{one_row}
-use Rattle.cubic.specs.Blend as blend
 use Rattle.cubic.specs.Blend.{twice}
 use Rattle.cubic.specs.Differences.{IsBicubic}
 use Rattle.cubic.proofs.Exact.{patch_bicubic, patch_doubled}
 use Rattle.cubic.proofs.Fits.{read}
 use Rattle.cubic.proofs.Levels.{patch_within}
-use Rattle.surface.specs.declared.Surface.{Surface}
-use Rattle.surface.specs.Surface.{surface_of, long_steps, StepsSearchable, Bounded}
+use Rattle.surface.specs.Surface.{surface_of, StepsSearchable, Bounded}
 use Rattle.surface.proofs.Long.{surface_finds, steps_searchable}
 use Rattle.scan.specs.declared.walker.Strides.{Strides}
 use Rattle.scan.specs.Walker.{stride_of, grid_strides, place_of}

@@ -2,7 +2,6 @@
 use mathlib.Core.Path.{ap}
 use mathlib.Core.List.{List}
 use Prim.Native.Nat.{ℕ}
-use borrow.Author.Rules.{rules}
 use Rattle.patch.specs.declared.Patch.{Patch}
 use Rattle.flip.proofs.flip_patch.Goals as goal
 

@@ -1,13 +1,9 @@
 -- `put_points` meets its contract: the points before k are those with the first k numbers.
-use borrow.Author.Count.{below_more}
-use mathlib.Core.Path.{◌≡◌, sym, ◌∙◌}
-use Prim.Native.Nat.{ℕ, ◌+◌, ◌*◌, ◌-◌, ◌≤◌, ◌<◌}
-use native.Mathlib.Omega.{arith}
-use borrow.Author.Rules.{rules}
-use lib.ListN.{length, get_or, length-set}
+use mathlib.Core.Path.{◌≡◌}
+use Prim.Native.Nat.{ℕ, ◌*◌, ◌-◌, ◌≤◌, ◌<◌}
+use lib.ListN.{length, get_or}
 use Rattle.cube.specs.Cube.{Axis}
 use Rattle.drawing.specs.Object.{coordinate}
-use Rattle.flip.proofs.Points.{same_points, put_before, put_here, read, read_point, length_points_at, point_at, has_point}
 use Rattle.flip.proofs.put_points.Given as goal
 
 abbrev pub invariant-loop-k : goal.invariant-loop-k

@@ -1,6 +1,5 @@
 -- `reverse` meets its contract: its numbers are those of the definition.
 use mathlib.Core.Path.{refl}
-use borrow.Author.Rules.{rules}
 use Rattle.decide.specs.Some.{some_of}
 use Rattle.flip.specs.Flip.{no_point, reversed}
 use Rattle.flip.proofs.reverse.Goals as goal

@@ -1,5 +1,4 @@
 -- `draw_patch` meets its contract: the verdict is that of the drawing order, and an accepted patch is drawn.
-use borrow.Author.Rules.{rules}
 use mathlib.Core.Path.{◌≡◌, sym, ◌∙◌, ap}
 use mathlib.Core.Bool.{Bool, false, not}
 use Prim.Native.Nat.{ℕ, ◌+◌, ◌≤◌}

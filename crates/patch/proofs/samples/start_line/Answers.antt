@@ -1,5 +1,4 @@
 -- `start_line` meets its contract: the walk along u starts in the cell of point 0.
-use borrow.Author.Rules.{rules}
 use mathlib.Core.Path.{◌≡◌}
 use Prim.Native.Nat.{ℕ, ◌≤◌, ◌<◌}
 use native.Mathlib.Omega.{arith}

@@ -1,5 +1,4 @@
 -- `start_surface` meets its contract: the columns are three bytes apart, and the points of a column twelve.
-use borrow.Author.Rules.{rules}
 use mathlib.Core.Path.{◌∙◌, ap}
 use Rattle.surface.specs.Surface.{surface_of}
 use Rattle.patch.proofs.Along.{face_is}

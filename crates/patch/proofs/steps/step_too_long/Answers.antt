@@ -1,5 +1,4 @@
 -- `step_too_long` meets its contract: the three axes in turn.
-use borrow.Author.Rules.{rules}
 use mathlib.Core.Path.{◌≡◌, sym, ◌∙◌}
 use mathlib.Core.Bool.{◌||◌}
 use Rattle.drawing.specs.Refusals.{steps_too_long}
