@@ -1,10 +1,9 @@
 -- `is_reversed` meets its contract: every cell that was passed is the other's, and the first that is not ends the search.
 use borrow.Author.Count.{below_more}
 use mathlib.Core.Path.{◌≡◌, sym, subst}
-use Prim.Native.Nat.{ℕ, ◌+◌, ◌*◌, ◌-◌, ◌≤◌, ◌<◌}
+use Prim.Native.Nat.{ℕ, ◌+◌, ◌*◌, ◌-◌}
 use native.Mathlib.Omega.{arith}
 use lib.Dec.{T}
-use lib.ListN.{length}
 use Rattle.flip.specs.Listings.{SameCell}
 use Rattle.both_ways.proofs.is_reversed.Goals as goal
 
