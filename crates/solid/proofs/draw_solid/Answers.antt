@@ -47,31 +47,31 @@ mark_slices-new_cells-requires c =
 pub overflow_add-answer : goal.overflow_add-answer
 overflow_add-answer c =
     let n = counts c.args.side c.args.solid _
-        (judged c.args.side c.args.solid _ c.is_volume-cube.ensures c.verdict.ensures c.in-Accepted.is) in
+    (judged c.args.side c.args.solid _ c.is_volume-cube.ensures c.verdict.ensures c.in-Accepted.is) in
     record { fits = omega arith }
 
 pub overflow_add-answer-in-Accepted : goal.overflow_add-answer-in-Accepted
 overflow_add-answer-in-Accepted c =
     let n = counts c.args.side c.args.solid _
-        (judged c.args.side c.args.solid _ c.is_volume-cube.ensures c.verdict.ensures c.in-Accepted.is) in
+    (judged c.args.side c.args.solid _ c.is_volume-cube.ensures c.verdict.ensures c.in-Accepted.is) in
     record { fits = omega arith }
 
 pub overflow_mul-answer : goal.overflow_mul-answer
 overflow_mul-answer c =
     let n = counts c.args.side c.args.solid _
-        (judged c.args.side c.args.solid _ c.is_volume-cube.ensures c.verdict.ensures c.in-Accepted.is) in
+    (judged c.args.side c.args.solid _ c.is_volume-cube.ensures c.verdict.ensures c.in-Accepted.is) in
     record { fits = omega (arith, slice_samples n.0 n.1) }
 
 pub overflow_add-answer-in-Accepted-2 : goal.overflow_add-answer-in-Accepted-2
 overflow_add-answer-in-Accepted-2 c =
     let n = counts c.args.side c.args.solid _
-        (judged c.args.side c.args.solid _ c.is_volume-cube.ensures c.verdict.ensures c.in-Accepted.is) in
+    (judged c.args.side c.args.solid _ c.is_volume-cube.ensures c.verdict.ensures c.in-Accepted.is) in
     record { fits = omega arith }
 
 pub overflow_mul-answer-in-Accepted : goal.overflow_mul-answer-in-Accepted
 overflow_mul-answer-in-Accepted c =
     let n = counts c.args.side c.args.solid _
-        (judged c.args.side c.args.solid _ c.is_volume-cube.ensures c.verdict.ensures c.in-Accepted.is) in
+    (judged c.args.side c.args.solid _ c.is_volume-cube.ensures c.verdict.ensures c.in-Accepted.is) in
     record { fits = omega (arith, all_samples n.0 n.1 n.2) }
 
 pub returns-in-Refused : goal.returns-in-Refused

@@ -97,8 +97,8 @@ pub overflow_add-new_cells : goal.overflow_add-new_cells
 overflow_add-new_cells c =
     let a = accepted_is c.args.solid (search rules) c.requires in
     let d = done c.mark_rows-new_cells.result a c.loop-k.invariant (scale_read a.limits c.scale-scale.ensures)
-        c.grid_strides-h.ensures c.slice-lines.ensures c.mark_rows-new_cells.ensures.grid_after_2
-        c.mark_rows-new_cells.ensures.grid_after in
+    c.grid_strides-h.ensures c.slice-lines.ensures c.mark_rows-new_cells.ensures.grid_after_2
+    c.mark_rows-new_cells.ensures.grid_after in
     record {
       fits = omega (arith, d.fewer, unmarked_at_most c.args.grid.now, a.volume_is, cube_grows a.drawable.side_most);
     }
@@ -125,8 +125,8 @@ loop-k-preserved c =
     let a = accepted_is c.args.solid (search rules) c.requires in
     let e = scale_read a.limits c.scale-scale.ensures in
     let d = done c.mark_rows-new_cells.result a f e
-        c.grid_strides-h.ensures c.slice-lines.ensures c.mark_rows-new_cells.ensures.grid_after_2
-        c.mark_rows-new_cells.ensures.grid_after in
+    c.grid_strides-h.ensures c.slice-lines.ensures c.mark_rows-new_cells.ensures.grid_after_2
+    c.mark_rows-new_cells.ensures.grid_after in
     rw add-one
     (record {
       within = before_last;
@@ -142,8 +142,8 @@ returns c =
     let s = c.args.solid in
     let a = accepted_is c.args.solid (search rules) c.requires in
     let d = done c.mark_rows-new_cells.result a c.loop-k.invariant (scale_read a.limits c.scale-scale.ensures)
-        c.grid_strides-h.ensures c.slice-lines.ensures c.mark_rows-new_cells.ensures.grid_after_2
-        c.mark_rows-new_cells.ensures.grid_after in
+    c.grid_strides-h.ensures c.slice-lines.ensures c.mark_rows-new_cells.ensures.grid_after_2
+    c.mark_rows-new_cells.ensures.grid_after in
     record {
       grid_after = d.fewer;
       grid_after_2 =
