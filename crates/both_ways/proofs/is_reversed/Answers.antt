@@ -16,21 +16,6 @@ returns-then-back-count c = (λ t. absurd t, λ r. omega (arith, r.space))
 pub loop-i-init : goal.loop-i-init
 loop-i-init c = (omega arith, omega arith, omega arith, λ j h. absurd (omega arith))
 
-pub overflow_mul-i : goal.overflow_mul-i
-overflow_mul-i c = omega arith
-
-pub overflow_sub-count : goal.overflow_sub-count
-overflow_sub-count c = omega arith
-
-pub overflow_sub-count-in-loop-i : goal.overflow_sub-count-in-loop-i
-overflow_sub-count-in-loop-i c = omega arith
-
-pub overflow_mul-count : goal.overflow_mul-count
-overflow_mul-count c = omega arith
-
-pub same_cell-requires : goal.same_cell-requires
-same_cell-requires c = omega arith
-
 pub returns-then-not-same_cell : goal.returns-then-not-same_cell
 returns-then-not-same_cell c =
     let s = c.args in
@@ -38,12 +23,6 @@ returns-then-not-same_cell c =
     let tested = c.same_cell in
     let other = subst T c.if-not-same_cell.true in
     (λ t. absurd t, λ r. other (tested.ensures.1 (r.cells i (s.count - 1 - i) (omega arith))))
-
-pub overflow_add-i : goal.overflow_add-i
-overflow_add-i c = omega arith
-
-pub loop-i-smaller : goal.loop-i-smaller
-loop-i-smaller c = omega arith
 
 pub loop-i-preserved : goal.loop-i-preserved
 loop-i-preserved c =
