@@ -6,7 +6,7 @@ use native.Mathlib.Nat.{le_trans, mul-le-mul}
 use native.Mathlib.Omega.{arith}
 use lib.Dec.{lit≤, lit<}
 use lib.IntN.{ℤ, pos}
-use lib.ListN.{length, get_or}
+use lib.ListN.{length}
 use Rattle.integers.proofs.Magnitude.{within_pos}
 use Rattle.bezier.specs.Exact.{scale}
 use Rattle.neighbours.specs.Steps.{too_long}

@@ -142,9 +142,12 @@ module _ {S : ℕ} (s : Solid) (l : Limited s) (d : Drawable S (solid_of s)) whe
   unfolding offset
   on_slice_0 = record {
     line = rows_start v_rows (first (first (first no_corner))) (start_on h);
-    d1 = λ a. elim a as (λ q. (block_of (start_of s h) q).d1 ≡ (volume_of (values_of s q) 0).d1) [ x_axis ↦ refl | y_axis ↦ refl | z_axis ↦ refl ];
-    d2 = λ a. elim a as (λ q. (block_of (start_of s h) q).d2 ≡ (volume_of (values_of s q) 0).d2) [ x_axis ↦ refl | y_axis ↦ refl | z_axis ↦ refl ];
-    d3 = λ a. elim a as (λ q. (block_of (start_of s h) q).d3 ≡ (volume_of (values_of s q) 0).d3) [ x_axis ↦ refl | y_axis ↦ refl | z_axis ↦ refl ];
+    d1 = λ a. elim a as (λ q. (block_of (start_of s h) q).d1 ≡ (volume_of (values_of s q) 0).d1)
+        [ x_axis ↦ refl | y_axis ↦ refl | z_axis ↦ refl ];
+    d2 = λ a. elim a as (λ q. (block_of (start_of s h) q).d2 ≡ (volume_of (values_of s q) 0).d2)
+        [ x_axis ↦ refl | y_axis ↦ refl | z_axis ↦ refl ];
+    d3 = λ a. elim a as (λ q. (block_of (start_of s h) q).d3 ≡ (volume_of (values_of s q) 0).d3)
+        [ x_axis ↦ refl | y_axis ↦ refl | z_axis ↦ refl ];
   }
 
   module _ {k : ℕ} {b : Blocks} (o : OnSlice s h k b) where

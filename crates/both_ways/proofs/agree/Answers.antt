@@ -1,5 +1,4 @@
 -- `agree` meets its contract: in each arm the two answers are known, and `Agree` says what is left to compare.
-use borrow.Author.Rules.{rules}
 use Rattle.decide.proofs.Truth.{equal}
 use Rattle.both_ways.proofs.agree.Goals as goal
 

@@ -1,10 +1,9 @@
 -- `is_reversed` meets its contract: every cell that was passed is the other's, and the first that is not ends the search.
 use borrow.Author.Count.{below_more}
 use mathlib.Core.Path.{◌≡◌, sym, subst}
-use Prim.Native.Nat.{ℕ, ◌+◌, ◌*◌, ◌-◌, ◌≤◌, ◌<◌}
+use Prim.Native.Nat.{ℕ, ◌+◌, ◌*◌, ◌-◌}
 use native.Mathlib.Omega.{arith}
 use lib.Dec.{T}
-use lib.ListN.{length}
 use Rattle.flip.specs.Listings.{SameCell}
 use Rattle.both_ways.proofs.is_reversed.Goals as goal
 
@@ -17,21 +16,6 @@ returns-then-back-count c = (λ t. absurd t, λ r. omega (arith, r.space))
 pub loop-i-init : goal.loop-i-init
 loop-i-init c = (omega arith, omega arith, omega arith, λ j h. absurd (omega arith))
 
-pub overflow_mul-i : goal.overflow_mul-i
-overflow_mul-i c = omega arith
-
-pub overflow_sub-count : goal.overflow_sub-count
-overflow_sub-count c = omega arith
-
-pub overflow_sub-count-in-loop-i : goal.overflow_sub-count-in-loop-i
-overflow_sub-count-in-loop-i c = omega arith
-
-pub overflow_mul-count : goal.overflow_mul-count
-overflow_mul-count c = omega arith
-
-pub same_cell-requires : goal.same_cell-requires
-same_cell-requires c = omega arith
-
 pub returns-then-not-same_cell : goal.returns-then-not-same_cell
 returns-then-not-same_cell c =
     let s = c.args in
@@ -39,12 +23,6 @@ returns-then-not-same_cell c =
     let tested = c.same_cell in
     let other = subst T c.if-not-same_cell.true in
     (λ t. absurd t, λ r. other (tested.ensures.1 (r.cells i (s.count - 1 - i) (omega arith))))
-
-pub overflow_add-i : goal.overflow_add-i
-overflow_add-i c = omega arith
-
-pub loop-i-smaller : goal.loop-i-smaller
-loop-i-smaller c = omega arith
 
 pub loop-i-preserved : goal.loop-i-preserved
 loop-i-preserved c =

@@ -1,5 +1,4 @@
 -- `same_cell` meets its contract: each of its three tests is a field of `SameCell`.
-use borrow.Author.Rules.{rules}
 use Rattle.decide.proofs.Truth.{equal}
 use Rattle.both_ways.proofs.same_cell.Goals as goal
 

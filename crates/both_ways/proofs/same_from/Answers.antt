@@ -1,9 +1,6 @@
 -- `same_from` meets its contract: every byte that was passed is the other's, and the first that is not ends the search.
 use borrow.Author.Count.{below_more}
-use mathlib.Core.Path.{◌≡◌}
-use Prim.Native.Nat.{ℕ, ◌-◌, ◌≤◌, ◌<◌}
 use native.Mathlib.Omega.{arith}
-use lib.ListN.{length, get_or}
 use Rattle.both_ways.proofs.same_from.Goals as goal
 
 pub returns-then-one-other : goal.returns-then-one-other
@@ -12,20 +9,8 @@ returns-then-one-other c = (λ t. absurd t, λ s. c.if-one-other.true s.long)
 pub loop-k-init : goal.loop-k-init
 loop-k-init c = (c.if-one-other.false, omega arith, λ j h l. absurd (omega arith))
 
-pub bounds-one-k : goal.bounds-one-k
-bounds-one-k c = omega arith
-
-pub bounds-other-k : goal.bounds-other-k
-bounds-other-k c = omega arith
-
 pub returns-then-one-k : goal.returns-then-one-k
 returns-then-one-k c = (λ t. absurd t, λ s. c.if-one-k.true (s.bytes _ (omega arith) (omega arith)))
-
-pub overflow_add-k : goal.overflow_add-k
-overflow_add-k c = omega arith
-
-pub loop-k-smaller : goal.loop-k-smaller
-loop-k-smaller c = omega arith
 
 pub loop-k-preserved : goal.loop-k-preserved
 loop-k-preserved c =

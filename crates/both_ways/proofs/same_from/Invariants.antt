@@ -1,8 +1,6 @@
 -- `same_from` meets its contract: every byte that was passed is the other's, and the first that is not ends the search.
-use borrow.Author.Count.{below_more}
 use mathlib.Core.Path.{◌≡◌}
 use Prim.Native.Nat.{ℕ, ◌-◌, ◌≤◌, ◌<◌}
-use native.Mathlib.Omega.{arith}
 use lib.ListN.{length, get_or}
 use Rattle.both_ways.proofs.same_from.Given as goal
 

@@ -1,5 +1,4 @@
 -- `check_solid` meets its contract: the order with nothing to say of grid, mark and list.
-use borrow.Author.Rules.{rules}
 use Rattle.drawing.specs.Refusals.{check_verdict}
 use Rattle.solid.proofs.check_solid.Goals as goal
 

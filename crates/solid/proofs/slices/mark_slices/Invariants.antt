@@ -1,32 +1,18 @@
 -- `mark_slices` meets its contract: before slice k the grid has the marks of the slices before it, and has lost as many unmarked
 -- cells as are counted.
-use borrow.Author.Rules.{rules}
 use mathlib.Core.Path.{◌≡◌, refl, sym, ◌∙◌, ap}
 use mathlib.Core.List.{List}
-use Prim.Native.Nat.{ℕ, suc, ◌+◌, ◌-◌, ◌≤◌, ◌<◌, zero-le}
-use native.Mathlib.Numerals.{add-one}
+use Prim.Native.Nat.{ℕ, ◌+◌, ◌-◌, ◌≤◌, zero-le}
 use native.Mathlib.Omega.{arith}
-use lib.IntN.{pos}
 use lib.ListN.{length}
 use Rattle.cube.specs.Cube.{volume}
-use Rattle.drawing.specs.Object.{scale_of}
-use Rattle.drawing.specs.Refusals.{Drawable}
 use Rattle.drawing.specs.Drawing.{marked}
 use Rattle.drawing.specs.NewCells.{unmarked_cells}
-use Rattle.drawing.proofs.Accepted.{draw_accepted}
 use Rattle.drawing.proofs.Marked.{marked_append, length_marked}
-use Rattle.drawing.proofs.NewCells.{unmarked_at_most}
-use Rattle.cubic.proofs.Fits.{read}
 use Rattle.scan.specs.Walker.{grid_strides}
-use Rattle.scan.proofs.Natural.{cube_grows}
-use Rattle.scan.proofs.Samples.{grid_small}
-use Rattle.rows.specs.Lines.{RowsOnGrid}
 use Rattle.solid.specs.declared.Solid.{Solid}
 use Rattle.solid.specs.declared.slices.Blocks.{Blocks}
-use Rattle.solid.specs.Solid.{solid_of}
-use Rattle.solid.proofs.Along.{drawable_in_limits, scale_read}
-use Rattle.solid.proofs.Sliced.{Limited, OnSlice, places, slice_places, earlier, with_slice, drawn_slices}
-use Rattle.solid.proofs.Sliced.{blocks_start, room_for_next, next_is, room_for_slice, slice_marks}
+use Rattle.solid.proofs.Sliced.{OnSlice, places, slice_places, earlier, with_slice}
 use Rattle.solid.proofs.slices.mark_slices.Given as goal
 
 -- Before slice k, where g is the grid at the start.

@@ -1,5 +1,4 @@
 -- `start_block` meets its contract: the walk along v starts in the cell of point 0.
-use borrow.Author.Rules.{rules}
 use mathlib.Core.Path.{◌≡◌}
 use mathlib.Core.List.{List}
 use Prim.Native.Nat.{ℕ, ◌≤◌, ◌<◌}

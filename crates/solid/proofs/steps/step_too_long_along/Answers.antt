@@ -1,5 +1,4 @@
 -- `step_too_long_along` meets its contract: the search goes through the solid's volume on the axis.
-use borrow.Author.Rules.{rules}
 use mathlib.Core.Path.{◌≡◌}
 use mathlib.Core.Bool.{Bool}
 use mathlib.Core.List.{List, [], ◌∷◌}

@@ -1,5 +1,4 @@
 -- `Block::next` meets its contract: the next row along v, and the next row of each of the three surfaces.
-use borrow.Author.Rules.{rules}
 use mathlib.Core.Path.{◌≡◌}
 use lib.Dec.{lit<}
 use Rattle.cubic.proofs.Fits.{held}

@@ -1,5 +1,4 @@
 -- `Block::slice` meets its contract: the row of the walk along v, and those of the three surfaces.
-use borrow.Author.Rules.{rules}
 use Rattle.solid.proofs.slices.Block.slice.Goals as goal
 
 pub returns : goal.returns

@@ -1,5 +1,4 @@
 -- `Blocks::slice` meets its contract: the slice on each axis.
-use borrow.Author.Rules.{rules}
 use Rattle.solid.proofs.slices.Blocks.slice.Goals as goal
 
 pub returns : goal.returns
