@@ -1,5 +1,4 @@
 -- `before_search` meets its contract: the tests before the step test, with no count and no list.
-use borrow.Author.Rules.{rules}
 use mathlib.Core.Path.{sym, ◌∙◌}
 use Rattle.chosen.proofs.Orders.{before_steps_lem}
 use Rattle.chosen.proofs.before_search.Goals as goal

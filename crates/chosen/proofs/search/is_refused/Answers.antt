@@ -1,5 +1,4 @@
 -- `is_refused` meets its contract: a last step that is too long is a step that is, and else the walk decides.
-use borrow.Author.Rules.{rules}
 use mathlib.Core.Path.{sym, ◌∙◌}
 use Prim.Native.Nat.{◌-◌}
 use native.Mathlib.Omega.{arith}
@@ -17,11 +16,9 @@ long_between-requires c = record {
 
 pub returns-then-is_last_long : goal.returns-then-is_last_long
 returns-then-is_last_long c =
-    let b = c in
-    let s = b in
     c.if-is_last_long.true ∙
     sym (true_of _ ((some_below_lem _ _).1
-    (s.args.curve.steps - 1, omega (arith, s.requires.count_least), rw (sym b.is_last_long.ensures ∙ c.if-is_last_long.true) tt)))
+    (c.args.curve.steps - 1, omega (arith, c.requires.count_least), rw (sym c.is_last_long.ensures ∙ c.if-is_last_long.true) tt)))
 
 pub returns-else-is_last_long : goal.returns-else-is_last_long
 returns-else-is_last_long c = c.long_between.ensures ∙ one_axis c.args.curve

@@ -1,5 +1,4 @@
 -- `next_axis` meets its contract.
-use borrow.Author.Rules.{rules}
 use native.Mathlib.Omega.{arith}
 use borrow.Author.Tests.{ne_eqb, eq-eqb}
 use Rattle.chosen.specs.Search.{next_axis}

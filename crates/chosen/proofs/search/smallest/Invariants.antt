@@ -1,16 +1,9 @@
 -- `smallest` meets its contract: every count below the present one is refused, and one that all three axes accept is the
 -- smallest.
-use borrow.Author.Rules.{rules}
-use mathlib.Core.Path.{◌≡◌, ◌∙◌, ap}
-use mathlib.Core.Logic.{◌⊎◌, inl, inr, ⊎_elim}
-use mathlib.Core.List.{List}
-use Prim.Native.Nat.{ℕ, ◌+◌, ◌-◌, ◌*◌, ◌≤◌, ◌<◌, max}
-use native.Mathlib.Omega.{arith}
-use lib.Dec.{lit<, lit≤}
-use Rattle.gaps.specs.Gaps.{ends_apart}
+use mathlib.Core.Path.{◌≡◌}
+use Prim.Native.Nat.{◌+◌, ◌-◌, ◌*◌, ◌≤◌, ◌<◌}
 use Rattle.chosen.specs.Search.{enough, Agreed}
-use Rattle.chosen.proofs.Least.{below_ends, ends_enough}
-use Rattle.chosen.proofs.Tries.{next_small, RefusedBelow, climbed_on, none_asked, one_more, it_alone, all_agree}
+use Rattle.chosen.proofs.Tries.{RefusedBelow}
 use Rattle.chosen.proofs.search.smallest.Given as goal
 
 abbrev pub invariant-loop-n : goal.invariant-loop-n

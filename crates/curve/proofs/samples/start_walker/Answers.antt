@@ -6,26 +6,26 @@ use Rattle.curve.proofs.samples.start_walker.Goals as goal
 
 pub start_axis-requires : goal.start_axis-requires
 start_axis-requires c =
-    let s = c in record {
-      in_limits = s.requires.in_limits;
+    record {
+      in_limits = c.requires.in_limits;
       a_bound = lit< tt;
-      small_stride = small_read (s.requires.small_strides.on x_axis);
+      small_stride = small_read (c.requires.small_strides.on x_axis);
     }
 
 pub start_axis-requires-2 : goal.start_axis-requires-2
 start_axis-requires-2 c =
-    let s = c in record {
-      in_limits = s.requires.in_limits;
+    record {
+      in_limits = c.requires.in_limits;
       a_bound = lit< tt;
-      small_stride = small_read (s.requires.small_strides.on y_axis);
+      small_stride = small_read (c.requires.small_strides.on y_axis);
     }
 
 pub start_axis-requires-3 : goal.start_axis-requires-3
 start_axis-requires-3 c =
-    let s = c in record {
-      in_limits = s.requires.in_limits;
+    record {
+      in_limits = c.requires.in_limits;
       a_bound = lit< tt;
-      small_stride = small_read (s.requires.small_strides.on z_axis);
+      small_stride = small_read (c.requires.small_strides.on z_axis);
     }
 
 pub returns : goal.returns
