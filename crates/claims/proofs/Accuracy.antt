@@ -81,6 +81,7 @@ module _ (n m l : ℕ) (points : List ℕ) (mark : ℕ) (choice : Choice) where
   by_parameter (first hi (index hj (index hk no_index))) far = along_t hi hj hk far
   by_parameter (later hi (first hj (index hk no_index))) far = along_u hi hj hk far
   by_parameter (later hi (later hj (first hk no_index))) far = along_v hi hj hk far
+  by_parameter {a = a} (later {i = i} hi (later hj (later {is = is} {js = js} _ beyond))) far = elim beyond [ ]
 
   as_neighbours : {a : Axis} → SolidLongStep n m l o a → LongStep (scale_of o) (n ∷ m ∷ l ∷ []) (exact o a)
   as_neighbours (along_t hi hj hk far) =

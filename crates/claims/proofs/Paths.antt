@@ -11,7 +11,7 @@ use Rattle.decide.specs.Some.{some_below, some_of}
 use Rattle.decide.specs.Refusal.{first_that}
 use Rattle.decide.proofs.Truth.{decided, equal}
 use Rattle.rounding.specs.Nearest.{nearest}
-use Rattle.neighbours.specs.Steps.{far_apart, some_sample, too_long, Neighbours, first}
+use Rattle.neighbours.specs.Steps.{far_apart, some_sample, too_long, Neighbours, first, later}
 use Rattle.cube.specs.Cube.{Axis, x_axis, y_axis, z_axis, Cell, some_axis, side_out, place}
 use Rattle.cube.proofs.Places.{by_axis}
 use Rattle.drawing.specs.declared.Choice.{Choice}
@@ -71,7 +71,7 @@ module _ {S : ℕ} (n : ℕ) (points : List ℕ) (mark : ℕ) (choice : Choice) 
   pub face_to_face : FaceToFace S n points mark choice
   face_to_face = record {
     share_a_face = laws.share_face n points mark choice d;
-    so_long = laws.path-length n points mark choice;
+    so_long = laws.path_length_lem n points mark choice;
     at_most = laws.path_at_most n points mark choice;
     every_sample = laws.sample_on_path n points mark choice d;
     in_the_cube = laws.path_inside n points mark choice d;
@@ -82,10 +82,12 @@ module _ {S : ℕ} (n : ℕ) (points : List ℕ) (mark : ℕ) (choice : Choice) 
   move_on_path : {sample next : List ℕ} {c : Cell} → Neighbours (n ∷ []) sample next →
       Memᴰ c (moves (cell_of o sample) (cell_of o next)) → Memᴰ c (path (cells o))
   move_on_path (first h no_index) m = laws.move_on_path n points mark choice _ h m
+  move_on_path {c = c} (later {i = i} {is = is} {js = js} _ beyond) m = elim beyond [ ]
 
   move_near : {sample next : List ℕ} {c : Cell} → Neighbours (n ∷ []) sample next →
       Memᴰ c (moves (cell_of o sample) (cell_of o next)) → SampleWithinOneAndAHalf o sample c
   move_near (first h no_index) m = laws.move_near n points mark choice d _ h m
+  move_near {c = c} (later {i = i} {is = is} {js = js} _ beyond) m = elim beyond [ ]
 
   pub inserted_on_path : {sample next : List ℕ} {c : Cell} → Inserted o sample next c → Memᴰ c (path (cells o))
   inserted_on_path i = move_on_path i.are_neighbours i.is_a_move
