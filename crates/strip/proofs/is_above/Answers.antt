@@ -6,7 +6,7 @@ use Rattle.strip.proofs.is_above.Goals as goal
 
 pub returns-then-side-gt17 : goal.returns-then-side-gt17
 unfolding side_above count_above
-returns-then-side-gt17 c = let s = c.args.side in simp (lt-ltb _ s c.if-side-gt17.true, lt-ltb 17 s (omega (arith, c.if-side-gt17.true)))
+returns-then-side-gt17 c = simp (lt-ltb 17 c.args.side c.if-side-gt17.true)
 
 pub returns-else-side-gt17 : goal.returns-else-side-gt17
 unfolding side_above count_above

@@ -1,65 +1,79 @@
 -- `number` meets its contract: the tests are made in the order's turn, and of a call that the strip does not take one applies.
-use borrow.Author.Rules.{rules}
 use borrow.Author.Tests.{lt-ltb, le-ltb, ne_eqb}
 use mathlib.Core.Path.{◌≡◌}
 use mathlib.Core.Bool.{true, false}
-use mathlib.Core.Logic.{⊎_elim}
+use Prim.Native.Nat.{ℕ, ◌≤◌}
 use Rattle.decide.specs.Refusal.{first_that, right_after}
 use Rattle.cube.specs.Cube.{side_out}
 use Rattle.drawing.specs.Refusals.{order}
 use Rattle.strip.specs.Strip.{side_above, strip_order, strip_verdict, beyond}
 use Rattle.strip.proofs.number.Goals as goal
-use Rattle.strip.proofs.number.Goals.{Else-side-gt17, Else-side-gt64, Joined-then-side-lt2}
-
--- The side is outside 2 to 64.
-outside : (c : Joined-then-side-lt2) → side_out c.args.side ≡ true
-unfolding side_out
-outside c =
-    let side = c.args.side in
-    ⊎_elim (λ w. simp (lt-ltb side 2 w.taken)) (λ w. simp (le-ltb side 2 w.0.left, w.1.taken)) c.then-side-lt2.branch
+use Rattle.strip.proofs.number.Goals.{then-side-lt2-via-then-side-lt2, then-side-lt2-via-else-side-lt2+then-side-gt64}
 
 -- The side is from 2 to 64,
-inside : (c : Else-side-gt64) → side_out c.args.side ≡ false
+inside : (S : ℕ) → 2 ≤ S → S ≤ 64 → side_out S ≡ false
 unfolding side_out
-inside c = simp (le-ltb c.args.side 2 c.if-side-lt2.false, c.if-side-gt64.false)
+inside S l h = simp (le-ltb S 2 l, le-ltb 64 S h)
 
 -- and up to 17.
-small : (c : Else-side-gt17) → side_above c.args.side ≡ false
+small : (S : ℕ) → S ≤ 17 → side_above S ≡ false
 unfolding side_above
-small c = le-ltb 17 c.args.side c.if-side-gt17.false
+small S h = le-ltb 17 S h
 
 pub returns-then-side-lt2 : goal.returns-then-side-lt2
-unfolding first_that right_after order strip_order strip_verdict
-returns-then-side-lt2 c = record { is = λ o b m e. simp (outside c) }
+unfolding first_that right_after order strip_order strip_verdict side_out
+returns-then-side-lt2 c =
+    let side = c.args.side in
+    let outside : side_out side ≡ true =
+    elim c.then-side-lt2.branch [
+      | then-side-lt2-via-then-side-lt2 w ↦ simp (lt-ltb side 2 w.if-side-lt2.true)
+      | then-side-lt2-via-else-side-lt2+then-side-gt64 w ↦
+          simp (le-ltb side 2 w.if-side-lt2.false, lt-ltb 64 side w.if-side-gt64.true)
+    ] in
+    record { is = λ o b m e. simp outside }
 
 pub returns-then-side-gt17 : goal.returns-then-side-gt17
 unfolding first_that right_after order side_above strip_order strip_verdict
-returns-then-side-gt17 c = record { is = λ o b m e. simp (inside c.before, lt-ltb 17 c.args.side c.if-side-gt17.true) }
+returns-then-side-gt17 c =
+    record { is = λ o b m e. simp (inside c.args.side c.if-side-lt2.false c.if-side-gt64.false, lt-ltb 17 c.args.side c.if-side-gt17.true) }
 
 pub returns-then-not-is_volume : goal.returns-then-not-is_volume
 unfolding first_that right_after order strip_order strip_verdict
 returns-then-not-is_volume c =
-    let v = c in
-    record { is = λ o b m e. simp (inside v.before, small v.before, ← v.is_volume.ensures, c.if-not-is_volume.true) }
+    record {
+      is = λ o b m e.
+          simp (
+            inside c.args.side c.if-side-lt2.false c.if-side-gt64.false,
+            small c.args.side c.if-side-gt17.false,
+            ← c.is_volume.ensures,
+            c.if-not-is_volume.true,
+          );
+    }
 
 pub returns-then-mark-eq0 : goal.returns-then-mark-eq0
 unfolding first_that right_after order strip_order strip_verdict
 returns-then-mark-eq0 c =
-    let v = c in
     record {
-      is = λ o b m e. simp (inside v.before, small v.before, ← v.is_volume.ensures, c.if-not-is_volume.false, m, c.if-mark-eq0.true);
+      is = λ o b m e.
+          simp (
+            inside c.args.side c.if-side-lt2.false c.if-side-gt64.false,
+            small c.args.side c.if-side-gt17.false,
+            ← c.is_volume.ensures,
+            c.if-not-is_volume.false,
+            m,
+            c.if-mark-eq0.true,
+          );
     }
 
 pub returns-then-count_out : goal.returns-then-count_out
 unfolding first_that right_after order strip_order strip_verdict
 returns-then-count_out c =
-    let v = c in
     record {
       is = λ o b m e.
           simp (
-            inside v.before,
-            small v.before,
-            ← v.is_volume.ensures,
+            inside c.args.side c.if-side-lt2.false c.if-side-gt64.false,
+            small c.args.side c.if-side-gt17.false,
+            ← c.is_volume.ensures,
             c.if-not-is_volume.false,
             m,
             ne_eqb _ 0 c.if-mark-eq0.false,
@@ -71,18 +85,17 @@ returns-then-count_out c =
 pub returns : goal.returns
 unfolding first_that right_after order strip_order strip_verdict beyond
 returns c =
-    let v = c in
     record {
       is = λ o b m e.
           simp (
-            inside v.before,
-            small v.before,
-            ← v.is_volume.ensures,
+            inside c.args.side c.if-side-lt2.false c.if-side-gt64.false,
+            small c.args.side c.if-side-gt17.false,
+            ← c.is_volume.ensures,
             c.if-not-is_volume.false,
             m,
             ne_eqb _ 0 c.if-mark-eq0.false,
             e,
             c.if-count_out.false,
-            simp (small v.before) at b,
+            simp (small c.args.side c.if-side-gt17.false) at b,
           );
     }
