@@ -1,5 +1,4 @@
 -- `of_drawing` meets its contract.
-use borrow.Author.Rules.{rules}
 use mathlib.Core.Path.{sym, ◌∙◌, ap}
 use Rattle.scan.specs.Answer.{draw_answer_of}
 use Rattle.exports.specs.Signed.{signed_of}
@@ -14,11 +13,9 @@ returns-in-Accepted c =
       new_cells_after = sym (ap (λ a. new_cells_after (draw_answer_of a) c.args.new_cells.now) c.in-Accepted.is);
     }
 
-
 pub returns-in-Refused : goal.returns-in-Refused
 returns-in-Refused c =
     record {
       value = small_read (c.refused.ensures.0 ∙ sym (ap (λ a. signed_of (answer_of (draw_answer_of a))) c.in-Refused.is)) c.refused.ensures.1;
       new_cells_after = sym (ap (λ a. new_cells_after (draw_answer_of a) c.args.new_cells.now) c.in-Refused.is);
     }
-

@@ -1,5 +1,4 @@
 -- `put_channel` meets its contract.
-use borrow.Author.Rules.{rules}
 use mathlib.Core.Path.{refl}
 use native.Mathlib.Omega.{arith}
 use lib.ListN.{length-set}
@@ -21,4 +20,3 @@ returns c =
       channels_len_unchanged = rw (length-set, length-set, length-set, length-set) refl;
       channels_after = four_bytes c.args.channels.now c.args.at _ _ _ _ c.requires.at_in_bounds;
     }
-
