@@ -17,17 +17,15 @@ use Rattle.channel.proofs.coordinate.Goals.{Joined-v, then-v, else-v}
 raised : (c : Joined-v) → Raised c.args.v c.if-v.raised
 unfolding of_bits le fits in_range
 raised c =
-    let s = c in
-    let v = s.args.v in
+    let v = c.args.v in
     elim c.if-v.branch [
-      | then-v w ↦ raised_small v w.raised-is (lit≤ tt) tt tt (lit≤ tt) s.requires.t w.if-v.true
-      | else-v w ↦ rw w.raised-is (raised_large v _ w.if-v.false (lit≤ tt) tt (subst T (sym s.well_formed.1.0.1) tt) s.requires.t)
+      | then-v w ↦ raised_small v w.raised-is (lit≤ tt) tt tt (lit≤ tt) c.requires.t w.if-v.true
+      | else-v w ↦ rw w.raised-is (raised_large v _ w.if-v.false (lit≤ tt) tt (subst T (sym c.well_formed.1.0.1) tt) c.requires.t)
     ]
 
 pub returns : goal.returns
 returns c =
-    let s = c in
-    raised_coordinate s.args.side s.args.v c.if-v.raised s.requires.le_side.0 s.requires.le_side.1 (raised c)
+    raised_coordinate c.args.side c.args.v c.if-v.raised c.requires.le_side.0 c.requires.le_side.1 (raised c)
 
 -- The exponent's field of the raised channel.
 field : (c : Joined-v) → let x = to_bits binary32 c.if-v.raised / 8388608 in (120 ≤ x) × (x ≤ 127)
@@ -42,8 +40,7 @@ float_to_bits-b c = range_no_nan c.if-v.raised (raised c).range
 
 pub overflow_mul-w : goal.overflow_mul-w
 overflow_mul-w c =
-    let s = c in
-    omega (arith, product_le (to_bits binary32 c.if-v.raised) s.args.side s.requires.le_side.1)
+    omega (arith, product_le (to_bits binary32 c.if-v.raised) c.args.side c.requires.le_side.1)
 
 pub overflow_sub-c-2 : goal.overflow_sub-c-2
 overflow_sub-c-2 c = omega (arith, field c)
@@ -53,12 +50,10 @@ overflow_shr-c c = omega (arith, field c)
 
 pub overflow_add-c : goal.overflow_add-c
 overflow_add-c c =
-    let s = c in
     let b = to_bits binary32 c.if-v.raised in
-    let w = (8388608 + fraction_field b) * (s.args.side - 1) in
-    omega (arith, product_le b s.args.side s.requires.le_side.1, shr_le (w - 1) (149 - b / 8388608))
+    let w = (8388608 + fraction_field b) * (c.args.side - 1) in
+    omega (arith, product_le b c.args.side c.requires.le_side.1, shr_le (w - 1) (149 - b / 8388608))
 
 pub overflow_cast-result : goal.overflow_cast-result
 overflow_cast-result c =
-    let s = c in
-    omega (arith, returns c, coordinate_below s.args.side s.args.v s.requires.le_side.0 s.requires.t, s.requires.le_side.1)
+    omega (arith, returns c, coordinate_below c.args.side c.args.v c.requires.le_side.0 c.requires.t, c.requires.le_side.1)

@@ -12,10 +12,9 @@ use Rattle.swatch.proofs.half_way.Goals as goal
 
 pub returns-in-Refused : goal.returns-in-Refused
 returns-in-Refused c =
-    let v = c in
-    let s = v.args in
+    let s = c.args in
     append_refused (swatch_refusals s.a) (swatch_refusals s.b)
-    (sym v.swatch_verdict.ensures ∙ ap verdict_of c.in-Refused.is)
+    (sym c.swatch_verdict.ensures ∙ ap verdict_of c.in-Refused.is)
 
 -- Past its match a swatch is accepted.
 passed : (w : Swatch) {r : Verdict} → verdict_of r ≡ first_that (swatch_refusals w) → r ≡ Accepted → first_that (swatch_refusals w) ≡ accepted
@@ -23,28 +22,23 @@ passed w e h = sym e ∙ ap verdict_of h
 
 pub returns-in-Refused-swatch_verdict : goal.returns-in-Refused-swatch_verdict
 returns-in-Refused-swatch_verdict c =
-    let v = c in
-    let s = v.args in
+    let s = c.args in
     append_passes (swatch_refusals s.a) (swatch_refusals s.b) (passed s.a c.swatch_verdict.ensures c.in-Accepted.is)
-    ∙ sym v.swatch_verdict-in-Accepted.ensures ∙ ap verdict_of c.in-Refused-swatch_verdict.is
+    ∙ sym c.swatch_verdict-in-Accepted.ensures ∙ ap verdict_of c.in-Refused-swatch_verdict.is
 
 pub rgb_half_way-requires : goal.rgb_half_way-requires
 rgb_half_way-requires c =
-    let t = c in
-    let k = t in
-    let s = k.args in record {
-      all_in_range = rw k.channels-first.ensures (swatch_in_range s.a (passed s.a c.swatch_verdict.ensures c.in-Accepted.is));
+    let s = c.args in record {
+      all_in_range = rw c.channels-first.ensures (swatch_in_range s.a (passed s.a c.swatch_verdict.ensures c.in-Accepted.is));
       all_in_range_2 = rw c.channels.ensures (swatch_in_range s.b (passed s.b c.swatch_verdict-in-Accepted.ensures c.in-Accepted-swatch_verdict.is));
     }
 
 pub returns-in-Accepted-swatch_verdict : goal.returns-in-Accepted-swatch_verdict
 returns-in-Accepted-swatch_verdict c =
-    let t = c in
-    let k = t in
-    let s = k.args in
+    let s = c.args in
     record {
       no_number = append_passes (swatch_refusals s.a) (swatch_refusals s.b) (passed s.a c.swatch_verdict.ensures c.in-Accepted.is) ∙ passed s.b c.swatch_verdict-in-Accepted.ensures c.in-Accepted-swatch_verdict.is;
-      mixed = rw (← k.channels-first.ensures, ← c.channels.ensures) c.rgb_half_way.ensures;
+      mixed = rw (← c.channels-first.ensures, ← c.channels.ensures) c.rgb_half_way.ensures;
     }
 
 pub channels-first-requires : goal.channels-first-requires

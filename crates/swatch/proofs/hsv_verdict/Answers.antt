@@ -40,19 +40,17 @@ hue h t e = hue_accepted h (subst T (sym t ∙ e) tt)
 
 pub returns-in-Refused : goal.returns-in-Refused
 returns-in-Refused c =
-    let v = c in
-    let w = v.args.w in
+    let w = c.args.w in
     sym
-    (append_passes (hues w) (saturations w ++ values w) (hue w.hue v.if-not-is_accepted.false v.is_accepted.ensures)
+    (append_passes (hues w) (saturations w ++ values w) (hue w.hue c.if-not-is_accepted.false c.is_accepted.ensures)
     ∙ append_refused (saturations w) (values w)
-    (sym v.channel_verdict.ensures ∙ ap verdict_of c.in-Refused.is))
+    (sym c.channel_verdict.ensures ∙ ap verdict_of c.in-Refused.is))
 
 pub returns-in-Accepted : goal.returns-in-Accepted
 returns-in-Accepted c =
-    let v = c in
-    let w = v.args.w in
+    let w = c.args.w in
     c.channel_verdict-in-Accepted.ensures
     ∙ sym
-    (append_passes (hues w) (saturations w ++ values w) (hue w.hue v.if-not-is_accepted.false v.is_accepted.ensures)
+    (append_passes (hues w) (saturations w ++ values w) (hue w.hue c.if-not-is_accepted.false c.is_accepted.ensures)
     ∙ append_passes (saturations w) (values w)
-    (sym v.channel_verdict.ensures ∙ ap verdict_of c.in-Accepted.is))
+    (sym c.channel_verdict.ensures ∙ ap verdict_of c.in-Accepted.is))

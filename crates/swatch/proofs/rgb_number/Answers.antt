@@ -57,7 +57,6 @@ number-requires-then-not-is_accepted-2 c =
 
 pub number-requires-2 : goal.number-requires-2
 number-requires-2 c =
-    let s = c in
-    let r = true_of (in_range s.args.c.red) (passed s.args.c.red c.if-not-is_accepted.false c.is_accepted.ensures) in
-    let g = true_of (in_range s.args.c.green) (passed s.args.c.green c.if-not-is_accepted-2.false c.is_accepted-2.ensures) in
-    rw (r, g) at s.requires
+    let r = true_of (in_range c.args.c.red) (passed c.args.c.red c.if-not-is_accepted.false c.is_accepted.ensures) in
+    let g = true_of (in_range c.args.c.green) (passed c.args.c.green c.if-not-is_accepted-2.false c.is_accepted-2.ensures) in
+    rw (r, g) at c.requires

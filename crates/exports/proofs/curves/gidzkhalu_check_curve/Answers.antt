@@ -1,5 +1,4 @@
 -- `gidzkhalu_check_curve` meets its contract: the record's length is judged, then the call.
-use borrow.Author.Rules.{rules}
 use mathlib.Core.Path.{◌∙◌, ap}
 use Prim.Native.Nat.{ℕ}
 use native.Mathlib.Omega.{arith}
@@ -22,18 +21,14 @@ told o = quit_number (quits o.points (get_or o.counts 0 0))
 
 pub returns-then-points-ne12 : goal.returns-then-points-ne12
 returns-then-points-ne12 c =
-    let s = c in
-    wrong_check 12 s.args.side (curve s.args.steps s.args.points.now 0 Over) told c.if-points-ne12.true
+    wrong_check 12 c.args.side (curve c.args.steps c.args.points.now 0 Over) told c.if-points-ne12.true
     (reads c.refused.ensures)
 
 pub returns : goal.returns
 returns c =
-    let k = c in
-    let e = k in
-    let s = e in
-    let curve' : Curve = k.curve_of.result in
-    right_check 12 s.args.side (curve s.args.steps s.args.points.now 0 Over) told _ (omega (arith, e.if-points-ne12.false))
-    k.curve_of.ensures
-    (ap quit_of k.check_curve.ensures ∙
-    telling_outcome quit_number (check_verdict s.args.side (curve_of curve')) (quits curve'.points curve'.steps))
+    let curve' : Curve = c.curve_of.result in
+    right_check 12 c.args.side (curve c.args.steps c.args.points.now 0 Over) told _ (omega (arith, c.if-points-ne12.false))
+    c.curve_of.ensures
+    (ap quit_of c.check_curve.ensures ∙
+    telling_outcome quit_number (check_verdict c.args.side (curve_of curve')) (quits curve'.points curve'.steps))
     (reads c.of_check.ensures)

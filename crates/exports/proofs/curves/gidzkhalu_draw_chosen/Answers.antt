@@ -1,5 +1,4 @@
 -- `gidzkhalu_draw_chosen` meets its contract: the record's length is judged, then the choice, then the call.
-use borrow.Author.Rules.{rules}
 use mathlib.Core.Path.{ap}
 use native.Mathlib.Omega.{arith}
 use Rattle.chosen.specs.Chosen.{chosen_drawing}
@@ -18,9 +17,6 @@ returns-then-choice-gt1 c =
 
 pub returns : goal.returns
 returns c =
-    let k = c in
-    let m = k in
-    let h = m in
-    right_drawing 12 _ _ _ _ _ (omega (arith, h.if-points-ne12.false)) (omega (arith, h.if-choice-gt1.false))
-    (ap (λ o. chosen_drawing h.args.side o.points o.mark o.choice) (rw m.choice_of.ensures at m.curve_of.ensures)) k.draw_chosen.ensures (reads c.of_drawing.ensures.value)
+    right_drawing 12 _ _ _ _ _ (omega (arith, c.if-points-ne12.false)) (omega (arith, c.if-choice-gt1.false))
+    (ap (λ o. chosen_drawing c.args.side o.points o.mark o.choice) (rw c.choice_of.ensures at c.curve_of.ensures)) c.draw_chosen.ensures (reads c.of_drawing.ensures.value)
     c.of_drawing.ensures.new_cells_after

@@ -1,7 +1,6 @@
 -- `gidzkhalu_flip_curve` meets its contract: the two lengths are judged, then the flip is written.
 use mathlib.Core.Path.{refl}
 use native.Mathlib.Omega.{arith}
-use borrow.Author.Rules.{rules}
 use Rattle.flip.specs.Flip.{reversed}
 use Rattle.exports.proofs.Small.{reads}
 use Rattle.exports.proofs.Calls.{flip_51, flip_52, flip_passes, flip_refused, flip_done}
@@ -11,13 +10,13 @@ pub returns-then-points-ne12 : goal.returns-then-points-ne12
 returns-then-points-ne12 c =
     let s = c.args in
     flip_refused 12 s.points.now _ reversed
-    (flip_51 12 s.points.now s.flipped-1.now c.if-points-ne12.true) (reads c.refused.ensures)
+    (flip_51 12 s.points.now s.flipped.now c.if-points-ne12.true) (reads c.refused.ensures)
 
 pub returns-then-flipped-ne12 : goal.returns-then-flipped-ne12
 returns-then-flipped-ne12 c =
     let s = c.args in
     flip_refused 12 s.points.now _ reversed
-    (flip_52 12 s.points.now s.flipped-1.now (omega (arith, c.if-points-ne12.false)) c.if-flipped-ne12.true)
+    (flip_52 12 s.points.now s.flipped.now (omega (arith, c.if-points-ne12.false)) c.if-flipped-ne12.true)
     (reads c.refused-then-flipped-ne12.ensures)
 
 pub reverse-requires : goal.reverse-requires
@@ -26,5 +25,5 @@ reverse-requires c = (omega (arith, c.if-points-ne12.false), omega (arith, c.if-
 pub returns : goal.returns
 returns c =
     let s = c.args in
-    let passes = flip_passes 12 s.points.now s.flipped-1.now (omega (arith, c.if-points-ne12.false)) (omega (arith, c.if-flipped-ne12.false)) in
+    let passes = flip_passes 12 s.points.now s.flipped.now (omega (arith, c.if-points-ne12.false)) (omega (arith, c.if-flipped-ne12.false)) in
     flip_done 12 s.points.now _ reversed passes c.reverse.ensures refl

@@ -1,5 +1,4 @@
 -- `gidzkhalu_list_part` meets its contract: the call, with its number signed.
-use borrow.Author.Rules.{rules}
 use Rattle.exports.proofs.Small.{reads}
 use Rattle.exports.proofs.Text.{part_small, small_written, written_signed}
 use Rattle.exports.proofs.listings.gidzkhalu_list_part.Goals as goal

@@ -1,5 +1,4 @@
 -- `gidzkhalu_refusal_line` meets its contract: the call, with its number signed.
-use borrow.Author.Rules.{rules}
 use Rattle.exports.proofs.Small.{reads}
 use Rattle.exports.proofs.Text.{line_small, small_written, written_signed}
 use Rattle.exports.proofs.listings.gidzkhalu_refusal_line.Goals as goal

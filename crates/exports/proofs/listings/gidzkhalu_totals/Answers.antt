@@ -1,5 +1,4 @@
 -- `gidzkhalu_totals` meets its contract: the call, with its number signed.
-use borrow.Author.Rules.{rules}
 use Rattle.exports.proofs.Small.{reads}
 use Rattle.exports.proofs.Text.{totals_small, small_written, written_signed}
 use Rattle.exports.proofs.listings.gidzkhalu_totals.Goals as goal

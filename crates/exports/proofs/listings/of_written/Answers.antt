@@ -1,5 +1,4 @@
 -- `of_written` meets its contract: each variant has its number.
-use borrow.Author.Rules.{rules}
 use mathlib.Core.Path.{sym, ◌∙◌, ap, subst}
 use Rattle.sheet_text.specs.Writes.{written_of}
 use Rattle.exports.specs.Signed.{signed_of}

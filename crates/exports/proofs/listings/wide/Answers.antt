@@ -1,5 +1,4 @@
 -- `wide` meets its contract: a number below 2^32 fits an i64.
-use borrow.Author.Rules.{rules}
 use Rattle.scan.proofs.Natural.{natural_read}
 use Rattle.exports.proofs.Small.{count_small}
 use Rattle.exports.proofs.listings.wide.Goals as goal

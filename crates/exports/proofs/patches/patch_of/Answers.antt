@@ -1,9 +1,8 @@
 -- `patch_of` meets its contract: the record's bytes are the caller's.
-use borrow.Author.Rules.{rules}
 use mathlib.Core.Path.{ap}
 use Rattle.drawing.specs.Object.{patch}
 use Rattle.exports.proofs.patches.patch_of.Goals as goal
 
 pub returns : goal.returns
 returns c =
-    let s = c in ap (λ p. patch s.args.n s.args.m p s.args.mark s.args.choice) c.copy.ensures
+    ap (λ p. patch c.args.n c.args.m p c.args.mark c.args.choice) c.copy.ensures

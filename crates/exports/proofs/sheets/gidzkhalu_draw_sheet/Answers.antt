@@ -1,5 +1,4 @@
 -- `gidzkhalu_draw_sheet` meets its contract: it hands on what the call answers.
-use borrow.Author.Rules.{rules}
 use mathlib.Core.Path.{refl, ap}
 use Rattle.sheet_cube.specs.Answer.{said_of}
 use Rattle.exports.proofs.Small.{reads}
@@ -8,12 +7,10 @@ use Rattle.exports.proofs.sheets.gidzkhalu_draw_sheet.Goals as goal
 
 pub returns-in-Drawn : goal.returns-in-Drawn
 returns-in-Drawn c =
-    let k = c in
-    sheet_call k.draw_sheet.ensures (ap said_of k.sheet-1.given.1) (reads c.accepted.ensures)
+    sheet_call c.draw_sheet.ensures (ap said_of c.in-Drawn.is) (reads c.accepted.ensures)
     refl refl
 
 pub returns-in-Refused : goal.returns-in-Refused
 returns-in-Refused c =
-    let k = c in
-    sheet_call k.draw_sheet.ensures (ap said_of k.refusal-1.given.1) (reads c.refused.ensures)
+    sheet_call c.draw_sheet.ensures (ap said_of c.in-Refused.is) (reads c.refused.ensures)
     refl refl

@@ -1,5 +1,4 @@
 -- `accepted` meets its contract: a u32 fits an i64.
-use borrow.Author.Rules.{rules}
 use native.Mathlib.Omega.{arith}
 use Rattle.exports.proofs.Small.{count_small, small_read}
 use Rattle.exports.proofs.signed.accepted.Goals as goal

@@ -1,12 +1,8 @@
 -- `copy` meets its contract: the bytes before the present one are copied.
-use borrow.Author.Rules.{rules}
-use mathlib.Core.Path.{◌≡◌, refl, sym, ◌∙◌, ap}
-use mathlib.Core.List.{List, [], ◌∷◌, ◌++◌}
-use Prim.Native.Nat.{ℕ, ◌+◌, ◌-◌, ◌≤◌, ◌<◌}
+use mathlib.Core.Path.{◌≡◌, refl, sym, ◌∙◌}
 use native.Mathlib.Omega.{arith}
-use native.Mathlib.Numerals.{add-one}
-use lib.ListN.{length, get_or, take, set, length-set}
-use lib.Seq.{take_all, take-suc, take-suc-set}
+use lib.ListN.{length, length-set}
+use lib.Seq.{take_all}
 use Rattle.exports.proofs.signed.copy.Invariants.{one_more}
 use Rattle.exports.proofs.signed.copy.Goals as goal
 
@@ -15,18 +11,17 @@ loop-i-init c = (refl, omega arith, refl)
 
 pub bounds-from-i : goal.bounds-from-i
 bounds-from-i c =
-    let l = c in omega (arith, l.requires, l.loop-i.invariant.0, c.loop-i-test.true)
+    omega (arith, c.requires, c.loop-i.invariant.0, c.loop-i-test.true)
 
 pub loop-i-smaller : goal.loop-i-smaller
 loop-i-smaller c = rw length-set (omega (arith, c.loop-i-test.true))
 
 pub loop-i-preserved : goal.loop-i-preserved
 loop-i-preserved c =
-    let l = c in
     let h = c.loop-i-test.true in (
-      rw length-set l.loop-i.invariant.0,
+      rw length-set c.loop-i.invariant.0,
       rw length-set (omega (arith, h)),
-      one_more l.args.from.now l.loop-i.to l.loop-i.i (omega (arith, h)) (omega (arith, l.requires, l.loop-i.invariant.0, h)) l.loop-i.invariant.2,
+      one_more c.args.from.now c.loop-i.to c.loop-i.i (omega (arith, h)) (omega (arith, c.requires, c.loop-i.invariant.0, h)) c.loop-i.invariant.2,
     )
 
 pub shape_of-to : goal.shape_of-to

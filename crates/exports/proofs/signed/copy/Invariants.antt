@@ -1,12 +1,10 @@
 -- `copy` meets its contract: the bytes before the present one are copied.
-use borrow.Author.Rules.{rules}
-use mathlib.Core.Path.{◌≡◌, refl, sym, ◌∙◌, ap}
+use mathlib.Core.Path.{◌≡◌, sym, ◌∙◌, ap}
 use mathlib.Core.List.{List, [], ◌∷◌, ◌++◌}
 use Prim.Native.Nat.{ℕ, ◌+◌, ◌-◌, ◌≤◌, ◌<◌}
-use native.Mathlib.Omega.{arith}
 use native.Mathlib.Numerals.{add-one}
-use lib.ListN.{length, get_or, take, set, length-set}
-use lib.Seq.{take_all, take-suc, take-suc-set}
+use lib.ListN.{length, get_or, take, set}
+use lib.Seq.{take-suc, take-suc-set}
 use Rattle.exports.proofs.signed.copy.Given as goal
 
 -- One more is copied.

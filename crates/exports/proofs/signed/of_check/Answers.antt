@@ -1,5 +1,4 @@
 -- `of_check` meets its contract.
-use borrow.Author.Rules.{rules}
 use mathlib.Core.Path.{sym, ◌∙◌, ap}
 use lib.Dec.{lit<}
 use Rattle.curve.specs.Curve.{check_answer_of}

@@ -1,5 +1,4 @@
 -- `of_count` meets its contract.
-use borrow.Author.Rules.{rules}
 use mathlib.Core.Path.{sym, ◌∙◌, ap}
 use Rattle.chosen.specs.Chosen.{count_answer_of}
 use Rattle.exports.specs.Signed.{signed_of}

@@ -1,5 +1,4 @@
 -- `of_drawing` meets its contract.
-use borrow.Author.Rules.{rules}
 use mathlib.Core.Path.{sym, ◌∙◌, ap}
 use Rattle.scan.specs.Answer.{draw_answer_of}
 use Rattle.exports.specs.Signed.{signed_of}

@@ -1,5 +1,4 @@
 -- `of_verdict` meets its contract.
-use borrow.Author.Rules.{rules}
 use mathlib.Core.Path.{sym, ◌∙◌, ap}
 use lib.Dec.{lit<}
 use Rattle.decide.specs.Verdict.{verdict_of}

@@ -1,5 +1,4 @@
 -- `refused` meets its contract: minus a u32 fits an i64.
-use borrow.Author.Rules.{rules}
 use native.Mathlib.Omega.{arith}
 use Prim.Native.Nat.{◌≤◌}
 use lib.Dec.{lit<}

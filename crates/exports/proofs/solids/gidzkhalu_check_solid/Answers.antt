@@ -1,5 +1,4 @@
 -- `gidzkhalu_check_solid` meets its contract: the record's length is judged, then the call.
-use borrow.Author.Rules.{rules}
 use mathlib.Core.Path.{ap}
 use native.Mathlib.Omega.{arith}
 use Rattle.decide.specs.Refusal.{outcome}
@@ -11,15 +10,11 @@ use Rattle.exports.proofs.solids.gidzkhalu_check_solid.Goals as goal
 
 pub returns-then-points-ne192 : goal.returns-then-points-ne192
 returns-then-points-ne192 c =
-    let s = c in
-    wrong_check 192 s.args.side (solid s.args.n s.args.m s.args.l s.args.points.now 0 Over) (λ _. 0) c.if-points-ne192.true
+    wrong_check 192 c.args.side (solid c.args.n c.args.m c.args.l c.args.points.now 0 Over) (λ _. 0) c.if-points-ne192.true
     (reads c.refused.ensures)
 
 pub returns : goal.returns
 returns c =
-    let k = c in
-    let e = k in
-    let s = e in
-    right_check 192 s.args.side (solid s.args.n s.args.m s.args.l s.args.points.now 0 Over) (λ _. 0) _
-    (omega (arith, e.if-points-ne192.false)) k.solid_of.ensures (ap (λ v. outcome v 0) k.check_solid.ensures)
+    right_check 192 c.args.side (solid c.args.n c.args.m c.args.l c.args.points.now 0 Over) (λ _. 0) _
+    (omega (arith, c.if-points-ne192.false)) c.solid_of.ensures (ap (λ v. outcome v 0) c.check_solid.ensures)
     (reads c.of_verdict.ensures)

@@ -1,5 +1,4 @@
 -- `gidzkhalu_draw_solid` meets its contract: the record's length is judged, then the choice, then the call.
-use borrow.Author.Rules.{rules}
 use mathlib.Core.Path.{ap}
 use native.Mathlib.Omega.{arith}
 use Rattle.drawing.specs.Drawing.{drawing_of}
@@ -18,9 +17,6 @@ returns-then-choice-gt1 c =
 
 pub returns : goal.returns
 returns c =
-    let k = c in
-    let m = k in
-    let h = m in
-    right_drawing 192 _ _ _ _ _ (omega (arith, h.if-points-ne192.false)) (omega (arith, h.if-choice-gt1.false))
-    (ap (drawing_of _) (rw m.choice_of.ensures at m.solid_of.ensures)) k.draw_solid.ensures (reads c.of_drawing.ensures.value)
+    right_drawing 192 _ _ _ _ _ (omega (arith, c.if-points-ne192.false)) (omega (arith, c.if-choice-gt1.false))
+    (ap (drawing_of _) (rw c.choice_of.ensures at c.solid_of.ensures)) c.draw_solid.ensures (reads c.of_drawing.ensures.value)
     c.of_drawing.ensures.new_cells_after
