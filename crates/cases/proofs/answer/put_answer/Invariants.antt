@@ -1,8 +1,5 @@
 -- `put_answer` meets its contract and ends: number k is written 9 k + 1 bytes after the letter.
-use Rattle.std.proofs.Common.{◌≡◌, ◌+◌, ◌-◌, ◌*◌, ◌<◌, ◌≤◌, length, arith, length-set, rules}
-use Rattle.cases.proofs.answer.put_answer.Reads as reads
-use Rattle.cases.proofs.answer.base_of.Reads as base-of-reads
-use Rattle.cases.proofs.answer.put_number.Reads as put-number-reads
+use Rattle.std.proofs.Common.{◌≡◌, ◌+◌, ◌-◌, ◌*◌, ◌<◌, ◌≤◌, length}
 use Rattle.cases.proofs.answer.put_answer.Given as goal
 
 abbrev pub invariant-loop-k : goal.invariant-loop-k

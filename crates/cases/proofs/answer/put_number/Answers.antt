@@ -1,5 +1,5 @@
 -- `put_number` meets its contract and ends: the place falls to 0, and the buffer keeps its length.
-use Rattle.std.proofs.Common.{◌≡◌, ◌≤◌, length, arith, length-set, rules}
+use Rattle.std.proofs.Common.{arith, length-set}
 use Rattle.cases.proofs.answer.put_number.Goals as goal
 
 pub bounds-answers-at : goal.bounds-answers-at

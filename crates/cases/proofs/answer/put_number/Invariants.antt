@@ -1,5 +1,5 @@
 -- `put_number` meets its contract and ends: the place falls to 0, and the buffer keeps its length.
-use Rattle.std.proofs.Common.{◌≡◌, ◌≤◌, length, arith, length-set, rules}
+use Rattle.std.proofs.Common.{◌≡◌, ◌≤◌, length}
 use Rattle.cases.proofs.answer.put_number.Given as goal
 
 abbrev pub invariant-loop-i : goal.invariant-loop-i

@@ -1,6 +1,5 @@
 -- `fill` meets its contract: the bytes before the place are filled, and the next one is at hand.
-use Rattle.std.proofs.Common.{◌≡◌, ℕ, ◌+◌, ◌-◌, ◌*◌, ◌%◌, ◌<◌, ◌≤◌, length, get_or, refl, ap, ◌∙◌, arith, length-set, get_or-set_other, get_or-set_same, rules, below_more}
-use Rattle.cases.proofs.Digested.{first_byte, next_byte}
+use Rattle.std.proofs.Common.{◌≡◌, ℕ, ◌+◌, ◌-◌, ◌*◌, ◌%◌, ◌<◌, ◌≤◌, length, get_or}
 use Rattle.cases.proofs.bytes.fill.Given as goal
 
 abbrev pub invariant-loop-i : goal.invariant-loop-i

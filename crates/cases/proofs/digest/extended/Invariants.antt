@@ -1,8 +1,8 @@
 -- `extended` meets its contract: after i bytes it has their digest. A remainder stays below its prime, so times 256 it
 -- leaves room for a byte.
-use Rattle.std.proofs.Common.{◌≡◌, ◌+◌, ◌-◌, ◌%◌, ◌<◌, ◌≤◌, cond, eqb, length, take, refl, ap, ◌∙◌, ⊎_elim, arith, take_all, eq-eqb, ne_eqb}
+use Rattle.std.proofs.Common.{◌≡◌, ◌-◌, ◌<◌, ◌≤◌, length, take}
 use Rattle.cases.specs.Bytes.{with_bytes}
-use Rattle.cases.proofs.Digested.{digest, next_digest}
+use Rattle.cases.proofs.Digested.{digest}
 use Rattle.cases.proofs.digest.extended.Given as goal
 
 -- The digest of the bytes so far.

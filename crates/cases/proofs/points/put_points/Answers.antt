@@ -1,5 +1,5 @@
 -- `put_points` meets its contract and ends: the place rises to the length, which stays.
-use Rattle.std.proofs.Common.{◌≡◌, ◌-◌, ◌<◌, ◌≤◌, length, arith, length-set, rules}
+use Rattle.std.proofs.Common.{arith, length-set}
 use Rattle.cases.proofs.points.put_points.Goals as goal
 
 pub loop-i-init : goal.loop-i-init

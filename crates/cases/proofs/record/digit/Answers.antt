@@ -1,9 +1,7 @@
 -- `digit` meets its contract: each arm's range decides the tests of `digitOf`.
-use Rattle.std.proofs.Common.{◌≡◌, ℕ, ◌-◌, ◌<◌, ◌≤◌, sym, ◌∙◌, arith, rules, le-leb}
+use Rattle.std.proofs.Common.{◌≡◌, ℕ, ◌-◌, ◌<◌, ◌≤◌, sym, arith, le-leb}
 use borrow.Author.Tests.{lt-leb}
 use Rattle.cases.specs.Record.{digit_of}
-use Rattle.cases.proofs.record.digit.Reads as reads
-use Rattle.cases.proofs.record.wide.Reads as wide-reads
 use Rattle.cases.proofs.record.digit.Goals as goal
 
 module _ (b : ℕ) where

@@ -1,9 +1,6 @@
 -- `is_case` meets its contract: every byte that was passed stands in its place, and the first that does not ends the search.
-use Rattle.std.proofs.Common.{◌≡◌, ℕ, ◌-◌, ◌<◌, ◌≤◌, length, get_or, sym, ◌∙◌, true≢false, arith, rules, below_more, eq-eqb, eqb-true}
-use borrow.Author.Tests.{not-false}
+use Rattle.std.proofs.Common.{◌≡◌, ℕ, ◌-◌, ◌<◌, ◌≤◌, length, get_or}
 use Rattle.cases.specs.Record.{Stands}
-use Rattle.cases.proofs.record.is_case.Reads as reads
-use Rattle.cases.proofs.record.stands.Reads as stands-reads
 use Rattle.cases.proofs.record.is_case.Given as goal
 
 abbrev pub invariant-loop-i : goal.invariant-loop-i

@@ -1,5 +1,5 @@
 -- `is_digit` meets its contract: each arm's range decides.
-use Rattle.std.proofs.Common.{◌≡◌, ℕ, Bool, true, false, sym, refl, inl, inr, ⊎_elim, true≢false, arith, rules}
+use Rattle.std.proofs.Common.{◌≡◌, ℕ, Bool, true, false, sym, refl, inl, inr, ⊎_elim, true≢false, arith}
 use Rattle.cases.specs.Record.{IsDigit}
 use Rattle.cases.proofs.record.is_digit.Goals as goal
 

@@ -1,5 +1,5 @@
 -- `nth` meets its contract: the part is as long as its end is past its start.
-use Rattle.std.proofs.Common.{◌≡◌, ◌+◌, ◌-◌, ◌*◌, refl, arith, length-drop, length-take, rules}
+use Rattle.std.proofs.Common.{◌≡◌, ◌+◌, ◌-◌, ◌*◌, refl, arith, length-drop, length-take}
 use Rattle.cases.proofs.record.nth.Goals as goal
 
 pub returns : goal.returns

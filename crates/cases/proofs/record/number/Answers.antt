@@ -1,9 +1,6 @@
 -- `number` meets its contract and ends: after i digits the value is that of the first i, which i digits can hold.
-use Rattle.std.proofs.Common.{◌≡◌, ℕ, zero, suc, ◌+◌, ◌-◌, ◌*◌, ◌^◌, ◌<◌, ◌≤◌, List, get_or, sym, refl, ap, ◌∙◌, pow-suc, add-one, arith, rules}
-use native.Mathlib.Nat.{pow-le-pow_right}
-use Rattle.cases.specs.Record.{digit_of, value_at}
-use Rattle.cases.proofs.record.number.Reads as reads
-use Rattle.cases.proofs.record.digit.Reads as digit-reads
+use Rattle.std.proofs.Common.{◌≡◌, ◌+◌, ◌*◌, ◌^◌, refl, pow-suc, add-one, arith, rules}
+use Rattle.cases.specs.Record.{value_at}
 use Rattle.cases.proofs.record.number.Invariants.{room, value_at_more}
 use Rattle.cases.proofs.record.number.Goals as goal
 

@@ -1,9 +1,7 @@
 -- `number` meets its contract and ends: after i digits the value is that of the first i, which i digits can hold.
-use Rattle.std.proofs.Common.{◌≡◌, ℕ, zero, suc, ◌+◌, ◌-◌, ◌*◌, ◌^◌, ◌<◌, ◌≤◌, List, get_or, sym, refl, ap, ◌∙◌, pow-suc, add-one, arith, rules}
+use Rattle.std.proofs.Common.{◌≡◌, ℕ, ◌+◌, ◌-◌, ◌*◌, ◌^◌, ◌<◌, ◌≤◌, List, get_or, add-one, arith}
 use native.Mathlib.Nat.{pow-le-pow_right}
 use Rattle.cases.specs.Record.{digit_of, value_at}
-use Rattle.cases.proofs.record.number.Reads as reads
-use Rattle.cases.proofs.record.digit.Reads as digit-reads
 use Rattle.cases.proofs.record.number.Given as goal
 
 pub value_at_more : (s : List ℕ) (at i : ℕ) → value_at s at (i + 1) ≡ value_at s at i * 16 + digit_of (get_or s (at + i) 0)

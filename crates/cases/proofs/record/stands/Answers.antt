@@ -1,5 +1,5 @@
 -- `stands` meets its contract: the remainder by nine says which of blank and digit is asked for.
-use Rattle.std.proofs.Common.{arith, rules, eq-eqb, eqb-true}
+use Rattle.std.proofs.Common.{arith, eq-eqb, eqb-true}
 use Rattle.cases.proofs.record.stands.Goals as goal
 
 pub returns-then-i-eq0 : goal.returns-then-i-eq0
