@@ -48,10 +48,14 @@ module _ {S : ℕ} {o : Object} {grid gridAfter : List ℕ} where
   -- An object of whatever kind, where the cells of its samples hold.
   just_drawn : Drawable S o → ((is : List ℕ) → Sample o.counts is → Holds S o grid gridAfter (cell_of o is)) →
       JustDrawn S o grid gridAfter
-  just_drawn d holds = record {
-    accurate = accurate d;
-    holding_its_mark = λ {sample = is} s. holds is s;
-  }
+  just_drawn d holds =
+      let w = accurate d in
+      record {
+        in_the_cube = w.in_the_cube;
+        within_half_a_cell = w.within_half_a_cell;
+        holding_its_mark = λ {sample = is} s. holds is s;
+        by_at_most_one = w.by_at_most_one;
+      }
 
 -- What a drawing of an object supplies, by what its kind says of a cell near the object and of the grid just after it: it writes
 -- the object's mark by the object's choice; an accepted one has a drawable object and fits; its cells are near; and where they

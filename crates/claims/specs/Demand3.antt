@@ -127,10 +127,15 @@ pub record Accurate (S : ℕ) (o : Object) : Type 0 where
   pub by_at_most_one : {sample next : List ℕ} → Neighbours o.counts sample next → (a : Axis) →
       NextTo (cell_of o sample a) (cell_of o next a)
 
--- Just after an object is drawn into a cube of side S, over or under: all this, with every sample's cell holding its mark.
+-- Just after an object is drawn into a cube of side S, over or under: every one of its exact samples has its cell in the
+-- cube, within half a cell on every axis, holding its mark; and two cells that follow one another, those of neighbours along
+-- whichever parameter (document 02, A.4), differ by at most one on every axis.
 pub record JustDrawn (S : ℕ) (o : Object) (grid gridAfter : List ℕ) : Type 0 where
-  pub accurate : Accurate S o
+  pub in_the_cube : {sample : List ℕ} → Sample o.counts sample → Inside S (cell_of o sample)
+  pub within_half_a_cell : {sample : List ℕ} → Sample o.counts sample → SampleNear o sample (cell_of o sample)
   pub holding_its_mark : {sample : List ℕ} → Sample o.counts sample → Holds S o grid gridAfter (cell_of o sample)
+  pub by_at_most_one : {sample next : List ℕ} → Neighbours o.counts sample next → (a : Axis) →
+      NextTo (cell_of o sample a) (cell_of o next a)
 
 -- Just after a face-to-face curve is drawn: the same of its samples; every inserted cell lies in the cube, within one and a half
 -- of the sample before it on every axis, and holds the mark; and neighbouring cells of its path share a face.
