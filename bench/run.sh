@@ -25,7 +25,7 @@ rename() {
 }
 
 build() {
-    if [ -z "${LIB:-}" ]; then rt staticlib exports >$out/staticlib.log 2>&1 || { tail -n 5 $out/staticlib.log; exit 1; }; fi
+    if [ -z "${LIB:-}" ]; then bash tests/library.sh >$out/staticlib.log 2>&1 || { tail -n 5 $out/staticlib.log; exit 1; }; fi
     # The library's header must declare what bench/box.h declares.
     $cc -std=c99 -fsyntax-only -include include/gidzkhalu.h -x c bench/box.h
     for name in same direct usual inputs agree bench; do

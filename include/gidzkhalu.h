@@ -1,4 +1,4 @@
-/* The key box for C. Link with libexports.a, which `rt staticlib exports` writes to target/staticlib/.
+/* The key box for C. Link with libexports.a, which `bash tests/library.sh` writes to target/staticlib/.
 
    Every function answers one signed number: 0 or more where the call is accepted, or minus the number of the first
    refusal that applies. What an accepted call answers, mostly a count, is said at each function.

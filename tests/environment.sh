@@ -5,7 +5,7 @@
 # What each function is held to is read from the header: "Environment: default" or "Environment: any" in the comment
 # above it.
 set -eu
-rt staticlib exports
+bash tests/library.sh
 library=target/staticlib/libexports.a
 # Threads: there is no data that calls could share, and no function of others but memcpy and memset.
 if [ "$(size $library | awk 'NR > 1 { data += $2 + $3 } END { print data + 0 }')" != 0 ] ||

@@ -4,7 +4,7 @@
 #   bash tests/longest.sh
 # The figures that it is held to are read from the header: "Instructions: N" in the comment above each function.
 set -eu
-rt staticlib exports
+bash tests/library.sh
 out=target/longest.out
 rm -rf $out
 mkdir -p $out

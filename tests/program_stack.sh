@@ -5,8 +5,7 @@
 # Each runs 20 times on four sheets, with an empty environment, under a limit (`ulimit -s`) that falls by 4 KiB: the system
 # places the stack anew each time. The figure that it is held to is read from README.md: "N KiB of stack".
 set -eu
-rt check stroke_sheet
-rt check key_totals
+bash tests/program.sh stroke_sheet key_totals
 stated=$(sed -n 's/.*[^0-9]\([0-9][0-9]*\) KiB of stack.*/\1/p' README.md | head -n 1)
 out=target/program_stack
 mkdir -p $out

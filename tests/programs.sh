@@ -3,5 +3,5 @@
 # repository root:
 #   bash tests/programs.sh
 set -eu
-rt check stroke_sheet key_totals
+bash tests/program.sh stroke_sheet key_totals
 exec python3 tests/programs.py target/bin

@@ -3,7 +3,7 @@
 #   bash tests/stack.sh
 # The figures that it is held to are read from the header: "Stack: N bytes" in the comment above each function.
 set -eu
-rt staticlib exports
+bash tests/library.sh
 sources="tests/stack.c tests/cases.c tests/reference.c"
 # -z now: no symbol is looked up during a measured call.
 cc -O2 -std=c99 -Wall -Wextra -pedantic -Iinclude $sources target/staticlib/libexports.a -Wl,-z,now -o target/stack
