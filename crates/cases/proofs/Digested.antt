@@ -1,5 +1,6 @@
--- The digest of bytes from that of all but the last.
-use Rattle.std.proofs.Common.{◌≡◌, ℕ, suc, ◌+◌, ◌*◌, ◌%◌, ◌<◌, cond, eqb, List, [], ◌∷◌, ◌++◌, length, get_or, take, sym, refl, ap, ◌∙◌, ap₂, add-one, take-suc}
+-- The digest of bytes from that of all but the last, and the byte of a place from that of the place before.
+use Rattle.std.proofs.Common.{◌≡◌, ℕ, suc, ◌+◌, ◌*◌, ◌%◌, ◌<◌, cond, eqb, List, [], ◌∷◌, ◌++◌, length, get_or, take, sym, refl, ap, ◌∙◌, ap₂, mod-eq_of_lt, add-one, arith, take-suc}
+use native.Mathlib.Nat.{mod-add-mod}
 use Rattle.cases.specs.declared.digest.Digest.{Digest}
 use Rattle.cases.specs.Bytes.{with_byte, with_bytes}
 
@@ -22,3 +23,10 @@ pub next_digest : (d : Digest) (bytes : List ℕ) (i m f s byte : ℕ) {now : �
 next_digest d bytes i m f s byte e h v w =
     ap (λ x. digest x ((f * 256 + byte) % 99999989) ((s * 256 + byte) % 99999959)) w ∙
     ap₂ with_byte e v ∙ sym (with_next d bytes i h) ∙ ap (λ n. with_bytes d (take n bytes)) (sym (add-one i))
+
+-- The first and the next byte of a filling.
+pub first_byte : (first step : ℕ) → first < 256 → first ≡ (first + step * 0) % 256
+first_byte first step h = sym (ap (◌% 256) (omega arith) ∙ mod-eq_of_lt h)
+
+pub next_byte : (first step i : ℕ) → ((first + step * i) % 256 + step) % 256 ≡ (first + step * (i + 1)) % 256
+next_byte first step i = mod-add-mod (first + step * i) 256 step ∙ ap (◌% 256) (omega arith)

@@ -6,7 +6,7 @@ use Prim.Native.Nat.{ℕ, ◌≤◌}
 use native.Mathlib.Nat.{mul-le-mul}
 use native.Mathlib.Omega.{arith}
 use lib.ListN.{length, take, drop, length-append}
-use lib.Seq.{take_at}
+use lib.Seq.{take_at, length-take-le}
 use Rattle.cube.specs.Cube.{volume}
 use Rattle.sheet.specs.Sheet.{Stroke, Judged, good, bad, judge}
 use Rattle.sheet.specs.Printed.{cube_of, refusal_line}
@@ -80,3 +80,7 @@ module _ {input buffer bufferNow text textNow : List ℕ} {r : Drawing}
         within = rw (holds, length-append, size) (omega arith);
         holds = rw holds (take_at text_line (drop (length text_line) text) bytes size);
       }
+
+-- The cells of a drawn sheet's cube are so many bytes of the buffer.
+pub taken : {input bufferNow : List ℕ} {S : ℕ} → Drawn input bufferNow S → {n : ℕ} → n ≡ volume S → length (take n bufferNow) ≡ n
+taken {bufferNow = b} d {n} e = length-take-le n b (rw e d.within)

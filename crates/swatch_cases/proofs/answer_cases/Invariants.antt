@@ -1,8 +1,6 @@
 -- `answer_cases` is safe and ends: the case's number rises to the count, and the answers' buffer keeps its length.
 use mathlib.Core.Path.{◌≡◌}
 use Prim.Native.Nat.{◌-◌, ◌≤◌}
-use native.Mathlib.Omega.{arith}
-use borrow.Author.Rules.{rules}
 use lib.ListN.{length}
 use Rattle.swatch_cases.proofs.answer_cases.Given as goal
 

@@ -1,6 +1,5 @@
 -- `channel` meets its contract: the quotient of two zeros is the NaN.
 use mathlib.Core.Path.{◌≡◌, refl, sym, ◌∙◌}
-use borrow.Author.Rules.{rules}
 use lib.Ieee.{nan, binary32, div, of_bits}
 use Rattle.swatch_cases.proofs.Nan.{pattern_nan, pattern_no_nan}
 use Rattle.swatch_cases.proofs.channel.Goals as goal
