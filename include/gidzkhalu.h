@@ -25,6 +25,7 @@
      - *new_cells, *detail, *n and *m may hold anything before a call.
      - Any number of threads may call at once, each with its own of all that is written; what is only read may be shared.
 
+   Stack and instructions as stated were measured with Rattle kit 5b.
    Stack: the most bytes that a call takes, as `bash tests/stack.sh` measures them on a painted stack. The return address
    is counted; arguments that the caller passes on the stack and what memset and memcpy take themselves are not.
    Instructions: those of the longest call, as `bash tests/longest.sh` counts them over inputs that are chosen to take
