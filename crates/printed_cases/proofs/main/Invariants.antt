@@ -1,5 +1,4 @@
 -- `main` is safe and ends: the turns that are left fall, by `Turns::after`.
-use borrow.Author.Rules.{rules}
 use Rattle.printed_cases.proofs.main.Given as goal
 
 abbrev pub invariant-loop-turns : goal.invariant-loop-turns

@@ -1,8 +1,6 @@
 -- `by_parts` is safe and ends: the place rises to the cube's length, by a part that is not 0.
 use mathlib.Core.Path.{◌≡◌}
 use Prim.Native.Nat.{◌-◌}
-use native.Mathlib.Omega.{arith}
-use borrow.Author.Rules.{rules}
 use lib.ListN.{length}
 use Rattle.sheet_cases.proofs.printed.by_parts.Given as goal
 

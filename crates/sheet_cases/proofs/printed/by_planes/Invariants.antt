@@ -1,8 +1,6 @@
 -- `by_planes` is safe and ends: each turn goes on to a later plane, up to the side.
 use mathlib.Core.Path.{◌≡◌}
 use Prim.Native.Nat.{◌-◌}
-use native.Mathlib.Omega.{arith}
-use borrow.Author.Rules.{rules}
 use lib.ListN.{length}
 use Rattle.sheet_cases.proofs.printed.by_planes.Given as goal
 
