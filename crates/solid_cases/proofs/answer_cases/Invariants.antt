@@ -1,8 +1,6 @@
 -- `answer_cases` is safe and ends: the case's number rises to the count, and the buffers keep their lengths.
 use mathlib.Core.Path.{◌≡◌}
 use Prim.Native.Nat.{◌-◌, ◌≤◌}
-use native.Mathlib.Omega.{arith}
-use borrow.Author.Rules.{rules}
 use lib.ListN.{length}
 use Rattle.solid_cases.proofs.answer_cases.Given as goal
 

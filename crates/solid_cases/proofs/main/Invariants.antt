@@ -2,7 +2,6 @@
 use mathlib.Core.Path.{◌≡◌, sym}
 use Prim.Native.Nat.{ℕ}
 use lib.ListN.{length, replicate, length-replicate}
-use borrow.Author.Rules.{rules}
 use Rattle.solid_cases.proofs.main.Given as goal
 
 pub zeros : 262144 ≡ length (replicate {A = ℕ} 262144 0)

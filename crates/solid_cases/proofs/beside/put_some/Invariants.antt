@@ -1,9 +1,7 @@
 -- `put_some` meets its contract and ends: the place rises to the length, which stays.
 use mathlib.Core.Path.{◌≡◌}
 use Prim.Native.Nat.{◌-◌, ◌≤◌}
-use native.Mathlib.Omega.{arith}
-use borrow.Author.Rules.{rules}
-use lib.ListN.{length, length-set}
+use lib.ListN.{length}
 use Rattle.solid_cases.proofs.beside.put_some.Given as goal
 
 abbrev pub invariant-loop-i : goal.invariant-loop-i
