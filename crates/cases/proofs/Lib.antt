@@ -1,2 +1,2 @@
--- `Digested`: the digest of bytes and the bytes of a filling, one byte after the other.
+-- `Digested`: the digest of bytes, one byte after the other.
 pub mod Digested

@@ -1,50 +1,64 @@
 // Answer records: a letter, then numbers of eight digits, each after a blank, and a line feed.
 ghost use Rattle.std.specs.Prelude.{◌≡◌, ◌+◌, ◌*◌, ◌<◌, ◌≤◌, length};
 
-// Writes an answer from byte at on, its numbers in hexadecimal or in decimal digits.
-pub fn put_answer(letter: u8, hexadecimal: bool, numbers: &[u32], answers: &mut [u8], at: usize)
-    requires { at + (9 * length numbers.now + 2) ≤ length answers.old }
-    ensures { length answers.new ≡ length answers.old }
-{
-    let base = base_of(hexadecimal);
-    let mut next = at + 1;
-    let mut k = 0;
-    while k < numbers.len() {
-        put_number(numbers[k], base, answers, next);
-        next += 9;
-        k += 1;
+// The digits in which numbers are written.
+#[derive(Clone, Copy, Debug, PartialEq, Eq)]
+pub enum Digits {
+    Decimal,
+    Hexadecimal,
+}
+
+impl Digits {
+    fn base(self) -> u32
+        ensures { (0 < result) × (result ≤ 16) }
+    {
+        match self {
+            Digits::Decimal => 10,
+            Digits::Hexadecimal => 16,
+        }
     }
-    answers[at] = letter;
-    answers[next] = b'\n';
 }
 
-fn base_of(hexadecimal: bool) -> u32
-    ensures { 0 < result }
-{
-    if hexadecimal { 16 } else { 10 }
+// An answer's letter and numbers.
+#[derive(Clone, Copy)]
+pub struct Answer<const N: usize> {
+    pub letter: u8,
+    pub digits: Digits,
+    pub numbers: [u32; N],
 }
 
-// Writes a blank and the last eight digits of a number from byte at on.
-fn put_number(n: u32, base: u32, answers: &mut [u8], at: usize)
-    requires base_nonzero { 0 < base }
-    requires at_in_bounds { at + 9 ≤ length answers.old }
-    ensures { length answers.new ≡ length answers.old }
+impl<const N: usize> Answer<N> {
+    // The answer to a record that is no case.
+    pub fn none() -> Answer<N> {
+        Answer {
+            letter: b'B',
+            digits: Digits::Decimal,
+            numbers: [0; N],
+        }
+    }
+
+    // Writes the answer's record.
+    pub fn put(&self, record: &mut [u8])
+        requires { length record.old ≡ 9 * N + 2 }
+    {
+        let base = self.digits.base();
+        let (fields, _) = record[1..].as_chunks_mut::<9>();
+        for (n, field) in self.numbers.iter().zip(fields) {
+            put_number(*n, base, field);
+        }
+        record[0] = self.letter;
+        record[9 * N + 1] = b'\n';
+    }
+}
+
+// Writes a blank and the last eight digits of a number.
+fn put_number(n: u32, base: u32, field: &mut [u8; 9])
+    requires { (0 < base) × (base ≤ 16) }
 {
     let mut rest = n;
-    let mut i = 8;
-    while i > 0 {
-        answers[at + i] = glyph(rest % base);
+    for digit in field[1..].iter_mut().rev() {
+        *digit = b"0123456789abcdef"[(rest % base) as usize];
         rest /= base;
-        i -= 1;
     }
-    answers[at] = b' ';
-}
-
-// The character of a digit below 16.
-fn glyph(d: u32) -> u8 {
-    if d < 10 {
-        48 + (d % 10) as u8
-    } else {
-        87 + (d % 16) as u8
-    }
+    field[0] = b' ';
 }

@@ -1,43 +1,30 @@
 // Cases from standard input that are a heading and the bytes that follow it.
-ghost use Rattle.std.specs.Prelude.{◌≡◌, ◌<◌, ◌⊎◌, length};
+ghost use Rattle.std.specs.Prelude.{◌≡◌, ◌<◌, ◌⊎◌, Ok, Err, length};
 ghost use Rattle.cases.specs.Block.{Headed};
 
-use crate::block::Progress;
+use crate::record::is_case;
+use crate::run::Stop;
 use std::io::Stdin;
 
 // Reads a heading, a record with the given letter. One of another form is a failure, since nothing says where the next
 // case begins.
-pub fn read_heading(input: Stdin, heading: &mut [u8], letter: u8) -> Progress
+pub fn read_heading(mut input: Stdin, heading: &mut [u8], letter: u8) -> Result<(), Stop>
     requires { 1 < length heading.old }
     ensures { Headed letter heading.new result }
 {
-    let mut reader = input;
-    let read = reading::fill(&mut reader, heading);
-    if read.failed {
-        return Progress::Failed;
-    }
-    if read.count == 0 {
-        return Progress::Ended;
-    }
-    if read.count < heading.len() || !crate::record::is_case(heading) {
-        return Progress::Failed;
-    }
-    if heading[0] == letter {
-        Progress::More
-    } else {
-        Progress::Failed
+    match reading::fill(&mut input, heading) {
+        Ok(0) => Err(Stop::Ended),
+        Ok(count) if count == heading.len() && is_case(heading) && heading[0] == letter => Ok(()),
+        _ => Err(Stop::Failed),
     }
 }
 
 // Reads as many bytes as are lent. An input that ends before is a failure.
-pub fn read_bytes(input: Stdin, bytes: &mut [u8]) -> Progress
-    ensures { (result ≡ Progress.More) ⊎ (result ≡ Progress.Failed) }
+pub fn read_bytes(mut input: Stdin, bytes: &mut [u8]) -> Result<(), Stop>
+    ensures { (result ≡ Ok tt) ⊎ (result ≡ Err Stop.Failed) }
 {
-    let mut reader = input;
-    let read = reading::fill(&mut reader, bytes);
-    if read.failed || read.count < bytes.len() {
-        Progress::Failed
-    } else {
-        Progress::More
+    match reading::fill(&mut input, bytes) {
+        Ok(count) if count == bytes.len() => Ok(()),
+        _ => Err(Stop::Failed),
     }
 }

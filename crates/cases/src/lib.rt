@@ -12,4 +12,4 @@ pub mod input;
 pub mod lent;
 pub mod points;
 pub mod record;
-pub mod turns;
+pub mod run;

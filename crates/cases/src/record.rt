@@ -1,51 +1,32 @@
 // Case records: a letter, then numbers of eight hexadecimal digits, a blank between two, and a line feed. Number k
 // begins at byte 9 k + 1, and a record of n numbers has 9 n + 1 bytes.
-ghost use Rattle.std.specs.Prelude.{◌≡◌, ◌+◌, ◌*◌, ◌<◌, ◌≤◌, true, length, take, drop};
+ghost use Rattle.std.specs.Prelude.{◌≡◌, ◌↔◌, ◌+◌, ◌*◌, ◌%◌, ◌<◌, ◌≤◌, IsTrue, length};
 ghost use Rattle.cases.specs.Record.{IsDigit, Stands, Formed, digit_of, value_at};
-
-// The record of number k in a block of records of the given width.
-pub fn nth(records: &[u8], k: usize, width: usize) -> &[u8]
-    requires { k * width + width ≤ length records.now }
-    ensures result_value { result.now ≡ take width (drop (k * width) records.now) }
-    ensures result_len { length result.now ≡ width }
-{
-    let at = k * width;
-    &records[at..at + width]
-}
 
 // Whether the bytes after the letter stand in their places.
 pub fn is_case(case: &[u8]) -> bool
     requires { 1 < length case.now }
-    ensures { (result ≡ true → Formed case.now) × (Formed case.now → result ≡ true) }
+    ensures { IsTrue result ↔ Formed case.now }
 {
     let last = case.len() - 1;
-    let mut i = 1;
-    while i < last {
+    for i in 1..last {
         if !stands(case[i], i) {
             return false;
         }
-        i += 1;
     }
     case[last] == b'\n'
 }
 
 fn stands(b: u8, i: usize) -> bool
-    ensures { (result ≡ true → Stands b i) × (Stands b i → result ≡ true) }
+    ensures { IsTrue result ↔ Stands b i }
 {
-    if i % 9 == 0 {
-        return b == b' ';
-    }
-    is_digit(b)
+    if i % 9 == 0 { b == b' ' } else { is_digit(b) }
 }
 
 fn is_digit(b: u8) -> bool
-    ensures { (result ≡ true → IsDigit b) × (IsDigit b → result ≡ true) }
+    ensures { IsTrue result ↔ IsDigit b }
 {
-    match b {
-        b'0'..=b'9' => true,
-        b'a'..=b'f' => true,
-        _ => false,
-    }
+    matches!(b, b'0'..=b'9' | b'a'..=b'f')
 }
 
 // The case's number k.
@@ -55,12 +36,18 @@ pub fn number(case: &[u8], k: usize) -> u32
 {
     let at = 9 * k + 1;
     let mut value = 0;
-    let mut i = 0;
-    while i < 8 {
+    for i in 0..8 {
         value = value * 16 + digit(case[at + i]);
-        i += 1;
     }
     value
+}
+
+// The last eight bits of the case's number k.
+pub fn byte(case: &[u8], k: usize) -> u8
+    requires { 9 * k + 9 ≤ length case.now }
+    ensures { result ≡ value_at case.now (9 * k + 1) 8 % 256 }
+{
+    (number(case, k) % 256) as u8
 }
 
 // The value of a hexadecimal digit, and 0 for any other byte.
@@ -68,14 +55,8 @@ fn digit(b: u8) -> u32
     ensures { (result ≡ digit_of b) × (result ≤ 15) }
 {
     match b {
-        b'0'..=b'9' => wide(b - b'0'),
-        b'a'..=b'f' => wide(b - b'a') + 10,
+        b'0'..=b'9' => u32::from(b - b'0'),
+        b'a'..=b'f' => u32::from(b - b'a') + 10,
         _ => 0,
     }
-}
-
-fn wide(b: u8) -> u32
-    ensures { result ≡ b }
-{
-    b as u32
 }

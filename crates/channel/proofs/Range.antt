@@ -1,7 +1,8 @@
 -- A channel has no refusal exactly where it lies from 0 to 1: past 31 it is finite, and past 32 neither below 0 nor above
 -- 1.
-use mathlib.Core.Path.{◌≡◌, refl, sym, subst}
-use mathlib.Core.Bool.{Bool, true, false, ◌&&◌}
+use mathlib.Core.Path.{◌≡◌, refl, sym, ap, ◌∙◌, subst}
+use mathlib.Core.Bool.{Bool, true, false, not, ◌&&◌}
+use mathlib.Core.List.{◌++◌}
 use Prim.Native.Nat.{◌+◌, ◌*◌, ◌≤◌}
 use native.Mathlib.Omega.{arith}
 use borrow.Author.Tests.{ltb-false, le-ltb, not-false}
@@ -9,19 +10,21 @@ use lib.Dec.{T}
 use lib.Ieee.{Float, nan, inf, fin, up, down, lt}
 use lib.Ieee.Fits.{up_pos}
 use lib.Ieee.Scale.{finite}
+use Rattle.std.specs.Float.{float_is_finite}
 use Rattle.decide.specs.Refusal.{first_that, accepted}
-use Rattle.decide.proofs.Truth.{both_false}
-use Rattle.decide.proofs.Refusal.{accepted_none}
+use Rattle.decide.proofs.Truth.{both, both_false}
+use Rattle.decide.proofs.FirstThat.{accepted_none, append_passes}
 use Rattle.channel.specs.Channel.{zero32, one32, in_range, infinite_or_nan, outside, channel_refusals}
+use Rattle.channel.specs.declared.Rgb.{Rgb}
+use Rattle.channel.specs.Rgb.{rgb_refusals}
 use Rattle.channel.proofs.Order.{zero_size, size_zero, range_of, range_nonneg, range_le_one}
 
--- The finite values are those between the two infinities.
-pub finite_between : (v : Float) → (lt (inf true) v && lt v (inf false)) ≡ finite v
-unfolding lt
-finite_between nan = refl
-finite_between (inf true) = refl
-finite_between (inf false) = refl
-finite_between (fin s m e) = refl
+-- The language's test of finite values is the definition's.
+pub no_finite : (v : Float) {b : Bool} → float_is_finite v ≡ b → infinite_or_nan v ≡ not b
+unfolding float_is_finite
+no_finite nan e = ap not e
+no_finite (inf s) e = ap not e
+no_finite (fin s m e) h = ap not h
 
 -- A finite value that is not outside lies from 0 to 1.
 inside : (v : Float) → T (finite v) → outside v ≡ false → T (in_range v)
@@ -72,3 +75,14 @@ pub channel_in_range : (v : Float) → first_that (channel_refusals v) ≡ accep
 channel_in_range v h =
     let r = (accepted_none (channel_refusals v)).0 h in
     inside v (subst T (sym (not-false (finite v) r.0)) tt) r.1.0
+
+-- Three channels from 0 to 1 have no refusal.
+pub rgb_accepted : (c : Rgb) → (in_range c.red && in_range c.green && in_range c.blue) ≡ true
+    → first_that (rgb_refusals c) ≡ accepted
+rgb_accepted c e =
+    let h = (both (in_range c.red && in_range c.green) (in_range c.blue)).0 (subst T (sym e) tt) in
+    let k = (both (in_range c.red) (in_range c.green)).0 h.0 in
+    let blues = channel_refusals c.blue in
+    append_passes (channel_refusals c.red) (channel_refusals c.green ++ blues) (range_accepted c.red k.0)
+    ∙ append_passes (channel_refusals c.green) blues (range_accepted c.green k.1)
+    ∙ range_accepted c.blue h.1

@@ -1,19 +1,10 @@
 -- The contract of the count alone fixes its answer.
-use mathlib.Core.Path.{◌≡◌, refl, sym, ◌∙◌, ap}
+use mathlib.Core.Path.{◌≡◌}
 use Prim.Native.Nat.{ℕ}
-use Rattle.decide.specs.Refusal.{Outcome, gives, refuses}
-use Rattle.chosen.specs.declared.CountAnswer.{CountAnswer}
-use Rattle.chosen.specs.declared.CountAnswer.TheVariants.{Steps, Refused}
-use Rattle.chosen.specs.Chosen.{count_answer_of}
+use Rattle.std.specs.Prelude.{Result}
+use Rattle.decide.specs.declared.Refusal.{Refusal}
+use Rattle.decide.specs.Verdict.{outcome_of}
+use Rattle.decide.proofs.Unique.{outcome_unique}
 
--- The answer that says this.
-abbrev counting : Outcome ℕ → CountAnswer
-counting (gives n) = Steps n
-counting (refuses k) = Refused k
-
-counting_said : (r : CountAnswer) → counting (count_answer_of r) ≡ r
-counting_said (Steps n) = refl
-counting_said (Refused k) = refl
-
-pub count_answer_unique : (r s : CountAnswer) → count_answer_of r ≡ count_answer_of s → r ≡ s
-count_answer_unique r s e = sym (counting_said r) ∙ ap counting e ∙ counting_said s
+pub count_answer_unique : (r s : Result ℕ Refusal) → outcome_of r ≡ outcome_of s → r ≡ s
+count_answer_unique = outcome_unique

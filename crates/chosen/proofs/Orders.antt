@@ -10,7 +10,7 @@ use lib.Dec.{eqb}
 use lib.ListN.{length}
 use Rattle.decide.specs.Refusal.{accepted, first_that}
 use Rattle.decide.proofs.Truth.{false_iff}
-use Rattle.decide.proofs.Refusal.{by_verdict, not_both, accepted_none}
+use Rattle.decide.proofs.FirstThat.{by_verdict, not_both, accepted_none}
 use Rattle.cube.specs.Cube.{volume}
 use Rattle.drawing.specs.declared.Choice.{Choice}
 use Rattle.drawing.specs.Object.{Object}

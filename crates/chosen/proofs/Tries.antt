@@ -5,10 +5,13 @@ use mathlib.Core.Bool.{true, false, true≢false}
 use mathlib.Core.List.{List, [], ◌∷◌}
 use Prim.Native.Nat.{ℕ, zero, suc, ◌+◌, ◌≤◌, ◌<◌}
 use native.Mathlib.Omega.{arith}
-use lib.Dec.{lit<, ltb}
+use lib.Dec.{ltb}
 use lib.ListN.{get_or}
 use Rattle.decide.proofs.Truth.{decided, less, not_less, false_of, true_of}
+use Rattle.cube.specs.Cube.{Axis, x_axis, y_axis, z_axis}
+use Rattle.drawing.specs.Object.{offset}
 use Rattle.scan.specs.Column.{Below64}
+use Rattle.scan.proofs.Axes.{offset_small, axis_numbered}
 use Rattle.curve.specs.declared.Curve.{Curve}
 use Rattle.curve.specs.Machine.{InLimits, long_along}
 use Rattle.curve.proofs.Search.{found, nowhere}
@@ -25,66 +28,60 @@ on_x g others h rest (suc (suc (suc b))) l = rest b (omega arith)
 
 module _ (c : Curve) where
   -- A count up to what is always enough, on one axis alone.
-  pub alone_limits : InCube c → (a : ℕ) → a < 3 → (n : ℕ) → 1 ≤ n → n ≤ enough c.points →
-      InLimits (with_steps (alone_of c a) n)
-  alone_limits i a h n l m =
+  pub alone_limits : InCube c → (a : Axis) → (n : ℕ) → 1 ≤ n → n ≤ enough c.points → InLimits (with_steps (alone_of c a) n)
+  alone_limits i a n l m =
       let twelve = i.twelve in
+      let small = offset_small a in
       record {
         count_least = l;
         count_most = omega (arith, m, enough_189 c.points i.coordinates);
         twelve = refl;
         coordinates =
-            let g : ℕ → ℕ = λ k. get_or c.points k 0 in
-            on_x (g a) (g (3 + a) ∷ 0 ∷ 0 ∷ g (6 + a) ∷ 0 ∷ 0 ∷ g (9 + a) ∷ 0 ∷ 0 ∷ []) (i.coordinates a (omega arith))
-            (on_x (g (3 + a)) (g (6 + a) ∷ 0 ∷ 0 ∷ g (9 + a) ∷ 0 ∷ 0 ∷ []) (i.coordinates (3 + a) (omega arith))
-            (on_x (g (6 + a)) (g (9 + a) ∷ 0 ∷ 0 ∷ []) (i.coordinates (6 + a) (omega arith))
-            (on_x (g (9 + a)) [] (i.coordinates (9 + a) (omega arith)) (λ b k. absurd (omega arith)))));
+            let g : ℕ → ℕ = λ k. get_or c.points (k + offset a) 0 in
+            on_x (get_or c.points (offset a) 0) (g 3 ∷ 0 ∷ 0 ∷ g 6 ∷ 0 ∷ 0 ∷ g 9 ∷ 0 ∷ 0 ∷ [])
+            (i.coordinates (offset a) (omega arith))
+            (on_x (g 3) (g 6 ∷ 0 ∷ 0 ∷ g 9 ∷ 0 ∷ 0 ∷ []) (i.coordinates (3 + offset a) (omega arith))
+            (on_x (g 6) (g 9 ∷ 0 ∷ 0 ∷ []) (i.coordinates (6 + offset a) (omega arith))
+            (on_x (g 9) [] (i.coordinates (9 + offset a) (omega arith)) (λ b k. absurd (omega arith)))));
       }
 
   module _ (n : ℕ) where
     -- An axis alone says what it says among the others.
-    pub alone_says : (a : ℕ) → long_along (with_steps (alone_of c a) n) 0 ≡ long_along (with_steps c n) a
+    pub alone_says : (a : Axis) → long_along (with_steps (alone_of c a) n) 0 ≡ long_along (with_steps c n) (offset a)
     alone_says a = refl
 
     -- An axis that refuses the count is enough.
-    pub refuses : (a : ℕ) → a < 3 → long_along (with_steps c n) a ≡ true → refuses_count c.points n ≡ true
-    refuses a h e = by_curve c.points n c.mark c.choice ∙ found (with_steps c n) a h e
+    pub refuses : (a : Axis) → long_along (with_steps c n) (offset a) ≡ true → refuses_count c.points n ≡ true
+    refuses a e = by_curve c.points n c.mark c.choice ∙ found (with_steps c n) (offset a) (offset_small a) e
 
     -- A count that is accepted is accepted by each axis.
-    each_accepts : refuses_count c.points n ≡ false → (a : ℕ) → a < 3 → long_along (with_steps c n) a ≡ false
-    each_accepts e a h = false_of _ (λ t. true≢false (sym (refuses a h (true_of _ t)) ∙ e))
+    each_accepts : refuses_count c.points n ≡ false → (a : Axis) → long_along (with_steps c n) (offset a) ≡ false
+    each_accepts e a = false_of _ (λ t. true≢false (sym (refuses a (true_of _ t)) ∙ e))
 
     -- And one that each axis accepts is accepted.
-    all_accept : ((a : ℕ) → a < 3 → long_along (with_steps c n) a ≡ false) → refuses_count c.points n ≡ false
-    all_accept each = by_curve c.points n c.mark c.choice ∙ nowhere (with_steps c n) each
+    all_accept : ((a : Axis) → long_along (with_steps c n) (offset a) ≡ false) → refuses_count c.points n ≡ false
+    all_accept each =
+        by_curve c.points n c.mark c.choice ∙
+        nowhere (with_steps c n) (λ k h. let a = axis_numbered k h in rw (← a.1) (each a.0))
 
-  pub accepts_enough : (a : ℕ) → a < 3 → (n : ℕ) → n ≡ enough c.points → long_along (with_steps c n) a ≡ false
-  accepts_enough a h n e = each_accepts n (rw e (enough_accepted c.points)) a h
+  pub accepts_enough : (a : Axis) → (n : ℕ) → n ≡ enough c.points → long_along (with_steps c n) (offset a) ≡ false
+  accepts_enough a n e = each_accepts n (rw e (enough_accepted c.points)) a
 
--- Three axes by their numbers.
-by_axis : (a : ℕ) → a < 3 → (P : ℕ → Type 0) → P 0 → P 1 → P 2 → P a
-by_axis zero h P x y z = x
-by_axis (suc zero) h P x y z = y
-by_axis (suc (suc zero)) h P x y z = z
-by_axis (suc (suc (suc a))) h P x y z = absurd (omega arith)
-
-before_next : (a : ℕ) → a < 3 → axis_before (next_axis a) ≡ a
-unfolding axis_before next_axis
-before_next a h = by_axis a h (λ a. axis_before (next_axis a) ≡ a) refl refl refl
-
-pub next_small : (a : ℕ) → a < 3 → next_axis a < 3
-unfolding next_axis
-next_small a h = by_axis a h (λ a. next_axis a < 3) (lit< tt) (lit< tt) (lit< tt)
+before_next : (a : Axis) → axis_before (next_axis a) ≡ a
+before_next x_axis = refl
+before_next y_axis = refl
+before_next z_axis = refl
 
 -- What holds of an axis, of the one before it and of the one before that holds of all three.
-all_around : (a : ℕ) → a < 3 → (P : ℕ → Type 0) → P a → P (axis_before a) → P (axis_before (axis_before a)) →
-    (b : ℕ) → b < 3 → P b
-unfolding axis_before
-all_around a h P =
-    by_axis a h (λ a. P a → P (axis_before a) → P (axis_before (axis_before a)) → (b : ℕ) → b < 3 → P b)
-    (λ x z y b k. by_axis b k P x y z)
-    (λ y x z b k. by_axis b k P x y z)
-    (λ z y x b k. by_axis b k P x y z)
+by_axis : (P : Axis → Type 0) → P x_axis → P y_axis → P z_axis → (b : Axis) → P b
+by_axis P x y z x_axis = x
+by_axis P x y z y_axis = y
+by_axis P x y z z_axis = z
+
+all_around : (a : Axis) (P : Axis → Type 0) → P a → P (axis_before a) → P (axis_before (axis_before a)) → (b : Axis) → P b
+all_around x_axis P x z y = by_axis P x y z
+all_around y_axis P y x z = by_axis P x y z
+all_around z_axis P z y x = by_axis P x y z
 
 -- Every count from 1 on below n is refused.
 abbrev pub RefusedBelow : Curve → ℕ → Type 0
@@ -92,30 +89,30 @@ RefusedBelow c n = (m : ℕ) → 1 ≤ m → m < n → refuses_count c.points m 
 
 module _ (c : Curve) where
   -- So they are below what an axis climbs to from there.
-  pub climbed_on : {a n to : ℕ} → RefusedBelow c n → Climbed c a n to → RefusedBelow c to
+  pub climbed_on : {a : Axis} {n to : ℕ} → RefusedBelow c n → Climbed c a n to → RefusedBelow c to
   climbed_on {n = n} below up m l h =
       ⊎_elim (λ t. below m l ((less m n).0 t)) (λ f. up.refused m (not_less m n f) h) (decided (ltb m n))
 
   -- None has been asked.
-  pub none_asked : (n a : ℕ) → Agreed c n a 0
+  pub none_asked : (n : ℕ) (a : Axis) → Agreed c n a 0
   none_asked n a = record { last = λ l. absurd (omega arith); last_but_one = λ l. absurd (omega arith) }
 
-  module _ {a n m so_many : ℕ} (h : a < 3) (agreed : Agreed c n a so_many) (up : Climbed c a n m) where
+  module _ {a : Axis} {n m so_many : ℕ} (agreed : Agreed c n a so_many) (up : Climbed c a n m) where
     -- One more agrees where it stays,
     pub one_more : m ≡ n → Agreed c m (next_axis a) (so_many + 1)
     one_more e = record {
-      last = λ l. rw (before_next a h) up.accepts;
-      last_but_one = λ l. rw (before_next a h, e) (agreed.last (omega arith));
+      last = λ l. rw (before_next a) up.accepts;
+      last_but_one = λ l. rw (before_next a, e) (agreed.last (omega arith));
     }
 
     -- and it alone where it has climbed.
     pub it_alone : Agreed c m (next_axis a) 1
-    it_alone = record { last = λ l. rw (before_next a h) up.accepts; last_but_one = λ l. absurd (omega arith) }
+    it_alone = record { last = λ l. rw (before_next a) up.accepts; last_but_one = λ l. absurd (omega arith) }
 
     -- Two and the one that stays are all three, and the count is the smallest.
     pub all_agree : 1 ≤ n → RefusedBelow c n → 2 ≤ so_many → m ≡ n → m ≡ chosen c.points
     all_agree l below two e =
         smallest_is c.points m (omega (arith, l, up.least))
-        (all_accept c m (all_around a h (λ b. long_along (with_steps c m) b ≡ false) up.accepts
+        (all_accept c m (all_around a (λ b. long_along (with_steps c m) (offset b) ≡ false) up.accepts
         (rw e (agreed.last (omega arith))) (rw e (agreed.last_but_one two))))
         (climbed_on below up)

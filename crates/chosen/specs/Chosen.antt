@@ -1,7 +1,7 @@
 -- Document 02, A.6: "the smallest step count that the curve rule accepts", and the draw call with it.
 use Rattle.std.specs.Prelude.{Bool, false, not, cond, List, [], ◌∷◌, ℕ, zero, suc, ◌*◌, eqb}
 use Rattle.decide.specs.Some.{some_of}
-use Rattle.decide.specs.Refusal.{Rule, ◌when◌, Verdict, Outcome, gives, refuses, first_that}
+use Rattle.decide.specs.Refusal.{Rule, ◌when◌, Verdict, first_that}
 use Rattle.cube.specs.Cube.{side_out, volume}
 use Rattle.drawing.specs.declared.Choice.{Choice}
 use Rattle.drawing.specs.declared.Choice.TheVariants.{Over}
@@ -9,8 +9,6 @@ use Rattle.drawing.specs.Object.{Object, curve}
 use Rattle.drawing.specs.Refusals.{coordinate_out, steps_too_long}
 use Rattle.drawing.specs.Drawing.{Drawing, drawing_of, judged_by}
 use Rattle.gaps.specs.Gaps.{largest_gap}
-use Rattle.chosen.specs.declared.CountAnswer.{CountAnswer}
-use Rattle.chosen.specs.declared.CountAnswer.TheVariants.{Steps, Refused}
 
 module _ (points : List ℕ) where
   -- The curve rule refuses four points with n steps: some step is too long. Mark and choice do not matter to it.
@@ -39,11 +37,6 @@ chosen_order S points grid_wrong markWrong =
 -- The count alone has neither grid nor mark: 11, then 14.
 unfoldable pub count_verdict : (S : ℕ) (points : List ℕ) → Verdict
 count_verdict S points = first_that (chosen_order S points false false)
-
--- What its answer says: the count, or the number that refuses the call.
-abbrev pub count_answer_of : CountAnswer → Outcome ℕ
-count_answer_of (Steps n) = gives n
-count_answer_of (Refused k) = refuses k
 
 -- The curve with the chosen count.
 abbrev pub chosen_curve : (points : List ℕ) (mark : ℕ) (choice : Choice) → Object

@@ -1,5 +1,7 @@
 -- What the search asks for and what it finds on the way.
-use Rattle.std.specs.Prelude.{◌≡◌, true, false, cond, List, [], ◌∷◌, ℕ, suc, ◌+◌, ◌-◌, ◌*◌, ◌≤◌, ◌<◌, max, eqb, length, get_or}
+use Rattle.std.specs.Prelude.{◌≡◌, true, false, List, [], ◌∷◌, ℕ, ◌+◌, ◌*◌, ◌≤◌, ◌<◌, max, length, get_or}
+use Rattle.cube.specs.Cube.{Axis, x_axis, y_axis, z_axis}
+use Rattle.drawing.specs.Object.{offset}
 use Rattle.gaps.specs.Gaps.{largest_gap}
 use Rattle.scan.specs.Column.{Below64}
 use Rattle.curve.specs.declared.Curve.{Curve}
@@ -19,32 +21,36 @@ with_steps c n = record { mark = c.mark; choice = c.choice; steps = n; points = 
 abbrev pub enough : (points : List ℕ) → ℕ
 enough points = max 1 (3 * largest_gap points)
 
--- One axis alone, by its number: its coordinates stand on x, and the others are 0.
-abbrev pub alone_of : Curve → (a : ℕ) → Curve
+-- One axis alone: its coordinates stand on x, and the others are 0.
+abbrev pub alone_of : Curve → Axis → Curve
 alone_of c a =
-    let g : ℕ → ℕ = λ k. get_or c.points k 0 in
+    let g : ℕ → ℕ = λ k. get_or c.points (k + offset a) 0 in
     record {
       mark = c.mark;
       choice = c.choice;
       steps = c.steps;
-      points = g a ∷ 0 ∷ 0 ∷ g (3 + a) ∷ 0 ∷ 0 ∷ g (6 + a) ∷ 0 ∷ 0 ∷ g (9 + a) ∷ 0 ∷ 0 ∷ [];
+      points = get_or c.points (offset a) 0 ∷ 0 ∷ 0 ∷ g 3 ∷ 0 ∷ 0 ∷ g 6 ∷ 0 ∷ 0 ∷ g 9 ∷ 0 ∷ 0 ∷ [];
     }
 
--- From one count up to another: each before it is refused, and one axis, by its number, accepts it.
-pub record Climbed (c : Curve) (a from to : ℕ) : Type 0 where
+-- From one count up to another: each before it is refused, and one axis accepts it.
+pub record Climbed (c : Curve) (a : Axis) (from to : ℕ) : Type 0 where
   pub least : from ≤ to
   pub most : to ≤ enough c.points
   pub refused : (n : ℕ) → from ≤ n → n < to → refuses_count c.points n ≡ true
-  pub accepts : long_along (with_steps c to) a ≡ false
+  pub accepts : long_along (with_steps c to) (offset a) ≡ false
 
--- The axis after one, and the axis before one, by their numbers: x comes after z.
-unfoldable pub next_axis : ℕ → ℕ
-next_axis a = cond (eqb a 2) 0 (suc a)
+-- The axis after one, and the axis before one: x comes after z.
+abbrev pub next_axis : Axis → Axis
+next_axis x_axis = y_axis
+next_axis y_axis = z_axis
+next_axis z_axis = x_axis
 
-unfoldable pub axis_before : ℕ → ℕ
-axis_before a = cond (eqb a 0) 2 (a - 1)
+abbrev pub axis_before : Axis → Axis
+axis_before x_axis = z_axis
+axis_before y_axis = x_axis
+axis_before z_axis = y_axis
 
 -- The last axes asked, so many of them, accept a count, where a is the next to be asked.
-pub record Agreed (c : Curve) (n a so_many : ℕ) : Type 0 where
-  pub last : 1 ≤ so_many → long_along (with_steps c n) (axis_before a) ≡ false
-  pub last_but_one : 2 ≤ so_many → long_along (with_steps c n) (axis_before (axis_before a)) ≡ false
+pub record Agreed (c : Curve) (n : ℕ) (a : Axis) (so_many : ℕ) : Type 0 where
+  pub last : 1 ≤ so_many → long_along (with_steps c n) (offset (axis_before a)) ≡ false
+  pub last_but_one : 2 ≤ so_many → long_along (with_steps c n) (offset (axis_before (axis_before a))) ≡ false

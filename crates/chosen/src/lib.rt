@@ -6,53 +6,39 @@ mod search;
 
 ghost use Rattle.std.specs.Prelude.{◌≡◌};
 ghost use Rattle.decide.specs.Refusal.{outcome, first_that};
-ghost use Rattle.decide.specs.Verdict.{verdict_of};
+ghost use Rattle.decide.specs.Verdict.{verdict_of, outcome_of};
 ghost use Rattle.scan.specs.Answer.{Draws};
-ghost use Rattle.chosen.specs.Chosen.{chosen, chosen_order, count_verdict, count_answer_of, chosen_drawing};
+ghost use Rattle.chosen.specs.Chosen.{chosen, chosen_order, count_verdict, chosen_drawing};
 
 use curve::Curve;
-use decide::Verdict;
-use scan::answer::{DrawAnswer, Drawn};
-
-// What the count alone answers: the count, or the refusal's number.
-#[derive(Clone, Copy)]
-pub enum CountAnswer {
-    Steps(u32),
-    Refused(u32),
-}
+use decide::Refusal;
+use scan::answer::Drawn;
 
 // The smallest step count that the curve rule accepts. The record's own, its mark and its choice are not looked at.
 // Refused: 11, 14.
-pub fn choose_steps(side: u32, curve: Curve) -> CountAnswer
-    ensures { count_answer_of result ≡ outcome (count_verdict side curve.points) (chosen curve.points) }
+pub fn choose_steps(side: u32, curve: Curve) -> Result<u32, Refusal>
+    ensures { outcome_of result ≡ outcome (count_verdict side curve.points) (chosen curve.points) }
 {
-    match before_search(side, curve, false, false) {
-        Verdict::Refused(k) => CountAnswer::Refused(k),
-        Verdict::Accepted => CountAnswer::Steps(search::smallest(curve)),
-    }
+    before_search(side, curve, false, false)?;
+    Ok(search::smallest(curve))
 }
 
 // Draws the curve with the chosen count in place of its own, which is not looked at: writes the mark, over or under, in each
 // sample's cell of the grid. Refused: 11, 21, 12, 14.
-pub fn draw_chosen(side: u32, curve: Curve, grid: &mut [u8]) -> DrawAnswer
+pub fn draw_chosen(side: u32, curve: Curve, grid: &mut [u8]) -> Result<Drawn, Refusal>
     ensures { Draws (chosen_drawing side curve.points curve.mark curve.choice) grid.old grid.new result }
 {
     let cube = scan::refusal::is_volume(side, grid.len());
-    match before_search(side, curve, !cube, curve.mark == 0) {
-        Verdict::Refused(k) => DrawAnswer::Refused(k),
-        Verdict::Accepted => {
-            let chosen = search::with_steps(curve, search::smallest(curve));
-            let new_cells = curve::samples::mark_samples(side, chosen, grid);
-            let answer = chosen.steps + 1; // samples 0 to n
-            DrawAnswer::Accepted(Drawn { answer, new_cells })
-        }
-    }
+    before_search(side, curve, !cube, curve.mark == 0)?;
+    let chosen = search::with_steps(curve, search::smallest(curve));
+    let new_cells = curve::samples::mark_samples(side, chosen, grid);
+    let answer = chosen.steps + 1; // samples 0 to n
+    Ok(Drawn { answer, new_cells })
 }
 
 // The first number that applies, with what grid and mark have to say. Neither a count nor a list has a say.
-fn before_search(side: u32, curve: Curve, grid_wrong: bool, mark_wrong: bool) -> Verdict
+fn before_search(side: u32, curve: Curve, grid_wrong: bool, mark_wrong: bool) -> Result<(), Refusal>
     ensures { verdict_of result ≡ first_that (chosen_order side curve.points grid_wrong mark_wrong) }
 {
-    let points = curve.points;
-    scan::refusal::before_steps(side, &points, grid_wrong, mark_wrong, false, false)
+    scan::refusal::before_steps(side, &curve.points, grid_wrong, mark_wrong, false, false)
 }

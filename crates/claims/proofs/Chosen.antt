@@ -10,7 +10,7 @@ use Rattle.bezier.specs.Exact.{blend, scale, points as pointCount, value}
 use Rattle.decide.specs.Some.{some_below, some_of}
 use Rattle.decide.specs.Refusal.{accepted, refused, first_that}
 use Rattle.decide.proofs.Truth.{decided, less, not_less, false_of}
-use Rattle.decide.proofs.Refusal.{accepted_none}
+use Rattle.decide.proofs.FirstThat.{accepted_none}
 use Rattle.neighbours.specs.Steps.{far_apart, some_sample, too_long}
 use Rattle.cube.specs.Cube.{Axis, some_axis, side_out}
 use Rattle.drawing.specs.declared.Choice.{Choice}

@@ -2,16 +2,18 @@
 use mathlib.Core.Path.{◌≡◌, sym, ◌∙◌, ap}
 use mathlib.Core.List.{List}
 use Prim.Native.Nat.{ℕ}
+use Rattle.std.specs.Prelude.{Result}
 use Rattle.sheet.specs.Printed.{marked_cells}
 use Rattle.sheet.specs.Call.{drew}
-use Rattle.sheet_cube.specs.declared.Answer.{Answer}
+use Rattle.sheet_cube.specs.declared.LineRefusal.{LineRefusal}
+use Rattle.sheet_cube.specs.declared.Sheet.{Sheet}
 use Rattle.sheet_cube.specs.Answer.{said_of, DrawsSheet}
 use Rattle.sheet_cube.proofs.Called.{called_accepted}
 use Rattle.claims.specs.Sheets.{SheetDrawn}
 use Rattle.claims.proofs.Strokes.{strokes_good, strokes_drawn, sheet_cube}
 use Rattle.claims.proofs.NewCells.{claim}
 
-pub sheet_drawn : {input buffer bufferNow : List ℕ} {r : Answer} {S n new : ℕ} →
+pub sheet_drawn : {input buffer bufferNow : List ℕ} {r : Result Sheet LineRefusal} {S n new : ℕ} →
     DrawsSheet input buffer bufferNow r → said_of r ≡ drew S n new → SheetDrawn input bufferNow S n new
 sheet_drawn {input} {S = S} d e =
     let a = called_accepted d e in

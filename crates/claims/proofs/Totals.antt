@@ -7,7 +7,7 @@ use native.Mathlib.Omega.{arith}
 use lib.Dec.{eqb, ltb}
 use lib.ListN.{length, replicate, length-replicate, get_or-replicate}
 use Rattle.decide.specs.Refusal.{accepted, first_that}
-use Rattle.decide.proofs.Refusal.{accepted_passes}
+use Rattle.decide.proofs.FirstThat.{accepted_passes}
 use Rattle.decide.proofs.Truth.{both_false, false_iff, not_less}
 use Rattle.cube.specs.Cube.{volume}
 use Rattle.drawing.specs.Object.{Object}

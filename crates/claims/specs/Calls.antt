@@ -1,6 +1,7 @@
 -- Calls to the functions that draw, as calls of demand 3's list.
-use Rattle.std.specs.Prelude.{List, [], ◌∷◌, ℕ}
-use Rattle.scan.specs.declared.answer.DrawAnswer.{DrawAnswer}
+use Rattle.std.specs.Prelude.{List, [], ◌∷◌, ℕ, Result}
+use Rattle.decide.specs.declared.Refusal.{Refusal}
+use Rattle.scan.specs.declared.answer.Drawn.{Drawn}
 use Rattle.drawing.specs.Drawing.{drawing_of}
 use Rattle.scan.specs.Answer.{Draws}
 use Rattle.curve.specs.declared.Curve.{Curve}
@@ -41,18 +42,18 @@ strip_patch_call side p = draw_strip_patch side p.n p.m p.points p.mark p.choice
 -- of calls, the grid at the start and the grid in the end.
 pub data Called : List Call → List ℕ → List ℕ → Type 0 where
   none : {grid : List ℕ} → Called [] grid grid
-  curve_then : {side : ℕ} {c : Curve} {r : DrawAnswer} {calls : List Call} {grid next after : List ℕ} →
+  curve_then : {side : ℕ} {c : Curve} {r : Result Drawn Refusal} {calls : List Call} {grid next after : List ℕ} →
       Draws (drawing_of side (curve_of c)) grid next r → Called calls next after → Called (curve_call side c ∷ calls) grid after
-  patch_then : {side : ℕ} {p : Patch} {r : DrawAnswer} {calls : List Call} {grid next after : List ℕ} →
+  patch_then : {side : ℕ} {p : Patch} {r : Result Drawn Refusal} {calls : List Call} {grid next after : List ℕ} →
       Draws (drawing_of side (patch_of p)) grid next r → Called calls next after → Called (patch_call side p ∷ calls) grid after
-  solid_then : {side : ℕ} {s : Solid} {r : DrawAnswer} {calls : List Call} {grid next after : List ℕ} →
+  solid_then : {side : ℕ} {s : Solid} {r : Result Drawn Refusal} {calls : List Call} {grid next after : List ℕ} →
       Draws (drawing_of side (solid_of s)) grid next r → Called calls next after → Called (solid_call side s ∷ calls) grid after
-  chosen_then : {side : ℕ} (c : Curve) {r : DrawAnswer} {calls : List Call} {grid next after : List ℕ} →
+  chosen_then : {side : ℕ} (c : Curve) {r : Result Drawn Refusal} {calls : List Call} {grid next after : List ℕ} →
       Draws (chosen_drawing side c.points c.mark c.choice) grid next r → Called calls next after →
       Called (chosen_call side c ∷ calls) grid after
-  path_then : {side : ℕ} {c : Curve} {r : DrawAnswer} {calls : List Call} {grid next after : List ℕ} →
+  path_then : {side : ℕ} {c : Curve} {r : Result Drawn Refusal} {calls : List Call} {grid next after : List ℕ} →
       Draws (path_drawing side (curve_of c)) grid next r → Called calls next after → Called (path_call side c ∷ calls) grid after
-  strip_curve_then : {side : ℕ} {c : Curve} {r : DrawAnswer} {calls : List Call} {grid next after : List ℕ} →
+  strip_curve_then : {side : ℕ} {c : Curve} {r : Result Drawn Refusal} {calls : List Call} {grid next after : List ℕ} →
       Draws (strip_drawing side (curve_of c)) grid next r → Called calls next after → Called (strip_curve_call side c ∷ calls) grid after
-  strip_patch_then : {side : ℕ} {p : Patch} {r : DrawAnswer} {calls : List Call} {grid next after : List ℕ} →
+  strip_patch_then : {side : ℕ} {p : Patch} {r : Result Drawn Refusal} {calls : List Call} {grid next after : List ℕ} →
       Draws (strip_drawing side (patch_of p)) grid next r → Called calls next after → Called (strip_patch_call side p ∷ calls) grid after

@@ -1,13 +1,14 @@
 -- Document 02, A.9: the preview strip beside the main path, which keeps its limits. Accepted and refused calls alike, over and
 -- under.
-use Rattle.std.specs.Prelude.{◌≡◌, ◌↔◌, ◌⊎◌, List, [], ◌∷◌, ℕ, ◌≤◌, ◌<◌, length, get_or, replicate}
+use Rattle.std.specs.Prelude.{◌≡◌, ◌↔◌, ◌⊎◌, List, [], ◌∷◌, ℕ, ◌≤◌, ◌<◌, length, get_or, replicate, Result}
+use Rattle.decide.specs.declared.Refusal.{Refusal}
 use Rattle.decide.specs.Refusal.{accepted, refused}
 use Rattle.cube.specs.Cube.{volume}
 use Rattle.drawing.specs.declared.Choice.TheVariants.{Over}
 use Rattle.drawing.specs.Object.{Object, curve, patch}
 use Rattle.drawing.specs.Refusals.{draw_verdict}
 use Rattle.drawing.specs.Drawing.{drawing_of}
-use Rattle.scan.specs.declared.answer.DrawAnswer.{DrawAnswer}
+use Rattle.scan.specs.declared.answer.Drawn.{Drawn}
 use Rattle.scan.specs.Answer.{Draws}
 use Rattle.strip.specs.Strip.{strip_verdict, strip_drawing}
 use Rattle.claims.specs.Known.{along_x}
@@ -46,9 +47,9 @@ module _ (S : ℕ) (o : Object) where
 
   -- From the same grid, whatever the strip accepts gets the answer of the main path, new cells included, and leaves its grid.
   pub record AsMain (grid : List ℕ) : Type 0 where
-    pub answer : {one other : List ℕ} {r s : DrawAnswer} → strip_verdict S (length grid) o ≡ accepted →
+    pub answer : {one other : List ℕ} {r s : Result Drawn Refusal} → strip_verdict S (length grid) o ≡ accepted →
         Draws (strip_drawing S o) grid one r → Draws (drawing_of S o) grid other s → r ≡ s
-    pub grids : {one other : List ℕ} {r s : DrawAnswer} → strip_verdict S (length grid) o ≡ accepted →
+    pub grids : {one other : List ℕ} {r s : Result Drawn Refusal} → strip_verdict S (length grid) o ≡ accepted →
         Draws (strip_drawing S o) grid one r → Draws (drawing_of S o) grid other s → one ≡ other
 
 -- For every side, every curve and every patch.

@@ -1,6 +1,6 @@
 -- Lines from the table are lines of the cube: a mark's numbers are the halves of its two words, and its count is 0 just
 -- where no cell holds it. So the lines of the marks before one, and of that one, are those before the next.
-use mathlib.Core.Path.{◌≡◌, sym, ◌∙◌, ap, subst}
+use mathlib.Core.Path.{◌≡◌, sym, ◌∙◌, ap}
 use mathlib.Core.Bool.{true, false}
 use mathlib.Core.List.{List, [], ◌∷◌, ◌++◌, append-nil}
 use Prim.Native.Nat.{ℕ, suc, ◌+◌, ◌*◌, ◌/◌, ◌%◌, ◌≤◌, ◌<◌}
@@ -9,7 +9,6 @@ use lib.ListN.{length}
 use Rattle.decide.proofs.Truth.{true_of, false_of}
 use Rattle.cube.specs.Cube.{x_axis, y_axis, z_axis, volume, cell_at}
 use Rattle.sheet.specs.Line.{in_line}
-use Rattle.sheet_text.specs.Puts.{Puts}
 use Rattle.totals.specs.Totals.{count, sum, is_held, numbers, held_from, mark_lines, totals}
 use Rattle.totals.proofs.Marks.{with_held, without, held_more, count_held}
 use Rattle.totals.proofs.Sums.{sum_pair}
@@ -57,9 +56,8 @@ module _ {S : ℕ} {cube table : List ℕ} (t : Table S cube table) (most : S �
     count_is = let e = held_are in cc
 
     -- The line of the table's numbers is the mark's line.
-    pub line_is : {at n : ℕ} {text after : List ℕ} →
-        Puts (in_line 10 (mark ∷ four_of held)) at text after n → Puts (in_line 10 (numbers S cube mark)) at text after n
-    line_is {at} {n} {text} {after} p = subst (λ vs. Puts (in_line 10 vs) at text after n) held_are p
+    pub line_is : in_line 10 (mark ∷ four_of held) ≡ in_line 10 (numbers S cube mark)
+    line_is = ap (in_line 10) held_are
 
     pub held_counts : ¬ (held.count ≡ 0) → is_held cube mark ≡ true
     held_counts some = true_of (is_held cube mark) ((count_held cube mark).1 (omega (arith, some, count_is)))

@@ -191,8 +191,8 @@ module _ (S : ℕ) (cube : List ℕ) (p x y z : ℕ) (x_in : x < S) (y_in : y < 
   }
 
 -- A row more: cell by cell.
-module _ (S : ℕ) (cube : List ℕ) (bytes : Bytes cube) (p : ℕ) (r : Row) (y_in : r.y < S)
-    (stands : p ≡ S * row_number S r) (inside : p + S ≤ length cube) where
+module _ (S : ℕ) (cube : List ℕ) (p : ℕ) (r : Row) (y_in : r.y < S) (stands : p ≡ S * row_number S r)
+    (inside : p + S ≤ length cube) (bytes : Bytes (take S (drop p cube))) where
   abbrev marks : List ℕ
   marks = take S (drop p cube)
 
@@ -205,7 +205,7 @@ module _ (S : ℕ) (cube : List ℕ) (bytes : Bytes cube) (p : ℕ) (r : Row) (y
       let more : p + i < length cube = omega arith in
       rw (add-suc, row_next marks i r t (omega (arith, size)), mark)
       (one_more S cube (p + i) i r.y r.z (omega arith) y_in (omega (arith, stands)) more
-      (bytes (p + i) more) (cells i (omega arith) table))
+      (rw mark at (bytes i (omega (arith, size)))) (cells i (omega arith) table))
 
   pub row_added : {t : List ℕ} → Table S (take p cube) t → Table S (take (p + S) cube) (added_row marks 0 r t)
   row_added {t} table =

@@ -3,10 +3,12 @@
 // A mark has two words of 64 bits: the count of its cells and the sum of their x, 32 bits each, and the sums of y and z.
 // Cells of even and of odd x have words of their own, so that along a run of one mark a sum does not wait for the one
 // before it: words 0 and 1 of mark m stand at 4 × m for even x, at 4 × m + 2 for odd x.
-ghost use Rattle.std.specs.Prelude.{◌≡◌, ◌+◌, ◌*◌, ◌^◌, ◌≤◌, ◌<◌, length, get_or, replicate};
-ghost use Rattle.cube.specs.Cube.{volume};
-ghost use Rattle.cube_totals.specs.Table.{Table, Below, plus, added, added_row, numbers_of, four_of};
+ghost use Rattle.std.specs.Prelude.{◌≡◌, ◌^◌, ◌≤◌, ◌<◌, length};
+ghost use Rattle.totals.specs.Sums.{Bytes};
+ghost use Rattle.cube_totals.specs.Table.{Table, Below, added, added_row, numbers_of, four_of};
 ghost use Rattle.cube_totals.specs.Next.{Next};
+
+use sheet_text::grid::Cube;
 
 // What a mark holds: the count of its cells, and the sums of their coordinates.
 #[derive(Clone, Copy)]
@@ -43,69 +45,45 @@ impl Row {
     }
 }
 
-// Fills a cleared table.
-pub(crate) fn tally(side: u32, cube: &[u8], table: &mut [u64])
-    requires le_side { (2 ≤ side) × (side ≤ 64) }
-    requires cube_len { length cube.now ≡ volume side }
-    requires table_value { table.old ≡ replicate 1024 0 }
-    ensures { Table side cube.now table.new }
+// The table of a cube.
+pub(crate) fn tally(cube: Cube) -> [u64; 1024]
+    ensures { Table cube.entry.side cube.entry.bytes.now result }
 {
-    let s = side as usize;
+    let mut table = [0; 1024];
     let mut row = Row { y: 0, z: 0 };
-    let mut p = 0;
-    while p < cube.len() {
-        let end = p + s;
-        add_row(&cube[p..end], row, table);
-        row = row.next(side as u64);
-        p = end;
+    for marks in cube.bytes.chunks_exact(cube.side as usize) {
+        add_row(marks, row, &mut table);
+        row = row.next(u64::from(cube.side));
     }
+    table
 }
 
-// Adds the cells of a row, an even and an odd x at a time.
-fn add_row(marks: &[u8], row: Row, table: &mut [u64])
+// Adds the cells of a row.
+fn add_row(marks: &[u8], row: Row, table: &mut [u64; 1024])
     requires marks_len_bound { length marks.now ≤ 64 }
     requires y_bound { (row.y ≤ 64) × (row.z ≤ 64) }
     requires below { Below (2 ^ 60) table.old }
-    ensures { table.new ≡ added_row marks.now 0 row table.old }
+    ensures marks_are { Bytes marks.now }
+    ensures table_after { table.new ≡ added_row marks.now 0 row table.old }
 {
-    let mut x = 0;
-    while x + 1 < marks.len() {
-        add(marks[x], x as u64, row.y, row.z, table);
-        add(marks[x + 1], (x + 1) as u64, row.y, row.z, table);
-        x += 2;
-    }
-    if x < marks.len() {
-        add(marks[x], x as u64, row.y, row.z, table);
+    for (x, &mark) in marks.iter().enumerate() {
+        add(mark, x as u64, row, table);
     }
 }
 
 // Adds a cell to the words of its mark.
-fn add(mark: u8, x: u64, y: u64, z: u64, table: &mut [u64])
+fn add(mark: u8, x: u64, row: Row, table: &mut [u64; 1024])
     requires below { Below (2 ^ 61) table.old }
-    requires x_bound { (x ≤ 64) × (y ≤ 64) × (z ≤ 64) }
-    ensures { table.new ≡ added mark x y z table.old }
+    requires x_bound { (x ≤ 64) × (row.y ≤ 64) × (row.z ≤ 64) }
+    ensures { table.new ≡ added mark x row.y row.z table.old }
 {
-    let at = 4 * wide(mark) + 2 * ((x % 2) as usize);
-    add_at(1 + 4294967296 * x, table, at);
-    add_at(y + 4294967296 * z, table, at + 1);
-}
-
-fn add_at(v: u64, table: &mut [u64], i: usize)
-    requires i_in_bounds { i < length table.old }
-    requires v_bound { get_or table.old i 0 + v < 2 ^ 64 }
-    ensures { table.new ≡ plus table.old i v }
-{
-    table[i] += v;
-}
-
-fn wide(b: u8) -> usize
-    ensures { (result ≡ b) × (result ≤ 255) }
-{
-    b as usize
+    let at = 4 * usize::from(mark) + 2 * ((x % 2) as usize);
+    table[at] += 1 + 4294967296 * x;
+    table[at + 1] += row.y + 4294967296 * row.z;
 }
 
 // The numbers of a mark.
-pub(crate) fn total_of(table: &[u64], mark: usize) -> Total
+pub(crate) fn total_of(table: &[u64; 1024], mark: usize) -> Total
     requires below { Below (2 ^ 60) table.now }
     requires mark_bound { mark < 256 }
     ensures { four_of result ≡ numbers_of table.now mark }

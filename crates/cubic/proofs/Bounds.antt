@@ -3,7 +3,6 @@
 use Prim.Native.Nat.{ℕ, zero, suc, ◌+◌, ◌-◌, ◌*◌, ◌≤◌, ◌<◌}
 use native.Mathlib.Nat.{le_trans, mul-le-mul, mul-le-mul_right}
 use native.Mathlib.Omega.{arith}
-use lib.Dec.{lit<}
 use lib.IntN.{ℤ, pos, negsuc, nat_abs, ◌+ℤ◌, ◌*ℤ◌}
 use Rattle.integers.specs.Magnitude.{Within}
 use Rattle.integers.proofs.Magnitude.{within_add, within_mul, within_self, within_pos, within_weaken}
@@ -14,6 +13,7 @@ use Rattle.cubic.specs.Blend.{blendℤ, samples, surface}
 use Rattle.cubic.specs.Differences.{delta, differences_at}
 use Rattle.cubic.specs.Basis.{dot}
 use Rattle.cubic.specs.Room.{Each, Level, Startable, Fields}
+use Rattle.cubic.proofs.Orders.{every_order}
 use Rattle.cubic.proofs.Rows.{row_delta}
 use Rattle.cubic.proofs.Across.{delta_same}
 use Rattle.cubic.proofs.Closed.{coef3, coef2, coef1, coef0, first_closed, second_closed, third_closed}
@@ -139,7 +139,7 @@ module _ {R : ℕ} (f : ℕ → ℤ) (i : ℕ) where
 
   pub within_fields : ((k : ℕ) → k < 4 → Within R (delta k f i)) → Fields R (differences_at f i)
   unfolding differences_at delta
-  within_fields w = record { value = w 0 (lit< tt); d1 = w 1 (lit< tt); d2 = w 2 (lit< tt); d3 = w 3 (lit< tt) }
+  within_fields w = every_order (λ k. delta k f i) w
 
 -- Four sequences whose fields at i are within Q are control values of a surface.
 module _ {Q : ℕ} (f0 f1 f2 f3 : ℕ → ℤ) (i : ℕ)

@@ -3,14 +3,14 @@
 -- expression follows its shape.
 use mathlib.Core.Path.{◌≡◌, refl, ◌∙◌, ap₂}
 use Prim.Native.Nat.{ℕ, ◌+◌, ◌*◌, ◌<◌, ◌^◌}
-use lib.Dec.{lit<, lit≤}
+use lib.Dec.{lit≤}
 use lib.IntN.{ℤ, pos, ◌+ℤ◌, ◌-ℤ◌, ◌*ℤ◌}
 use mir.Syntax.{w64}
 use mir.Val.{SFits, to_z, of_z}
 use mir.Facts.{to_z-of_z}
 use Rattle.integers.specs.Magnitude.{Within}
 use Rattle.integers.proofs.Magnitude.{within_add, within_sub, within_mul, within_weaken, within_self}
-use Rattle.integers.proofs.Machine.{within_fits, within_read}
+use Rattle.integers.proofs.Machine.{within_fits}
 
 -- What is read back of the bits of z.
 abbrev pub read : ℤ → ℤ
@@ -63,26 +63,6 @@ module _ {M N : ℕ} {x y r s : ℤ} (p : Holds M x r) (q : Holds N y s) where
     size = within_mul p.size q.size;
   }
 
-module _ {x y : ℤ} where
-  -- Two integers within 2^61 have a sum that fits.
-  pub sum_fits : Within (2 ^ 61) x → Within (2 ^ 61) y → SFits w64 (read x +ℤ read y)
-  sum_fits p q = add_fits (held p (lit< tt)) (held q (lit< tt)) (lit< tt)
-
-  -- And a difference.
-  pub difference_fits : Within (2 ^ 61) x → Within (2 ^ 61) y → SFits w64 (read x -ℤ read y)
-  difference_fits p q = sub_fits (held p (lit< tt)) (held q (lit< tt)) (lit< tt)
-
-  -- What is held of a sum of two integers within 2^60.
-  pub sum_within : Within (2 ^ 60) x → Within (2 ^ 60) y → Within (2 ^ 61) (read x +ℤ read y)
-  sum_within p q = rw ((held p (lit< tt)).same, (held q (lit< tt)).same) (within_add p q)
-
 -- What is within 2^60 is within 2^61.
 pub wider : {z : ℤ} → Within (2 ^ 60) z → Within (2 ^ 61) z
 wider b = within_weaken b (lit≤ tt)
-
--- What is read back is within the same bound.
-pub read_within : {z : ℤ} → Within (2 ^ 61) z → Within (2 ^ 61) (read z)
-read_within b = within_read w64 b (lit< tt)
-
--- The sums and differences of a step fit, from the bounds at hand.
-pub ruleset fitting = (sum_fits, difference_fits, sum_within, wider, read_within)

@@ -7,10 +7,9 @@ use lib.Dec.{lit≤, lit<}
 use lib.IntN.{ℤ, pos}
 use Rattle.integers.specs.Magnitude.{Within}
 use Rattle.integers.proofs.Magnitude.{within_pos, within_weaken, within_mul}
-use Rattle.cubic.specs.declared.differences.Cubic.{Cubic}
 use Rattle.cubic.specs.declared.axis.Axis.{Axis}
 use Rattle.cubic.specs.Blend.{samples, column, patch, face, volume, twice}
-use Rattle.cubic.specs.Differences.{delta, differences_at}
+use Rattle.cubic.specs.Differences.{Cubic, delta, differences_at}
 use Rattle.cubic.specs.Room.{Each, Level, Startable, Fields, Room, Steps}
 use Rattle.cubic.specs.Tracks.{Tracks, Remainder}
 use Rattle.cubic.proofs.Tracks.{remainder_within}

@@ -5,12 +5,12 @@ use native.Mathlib.Omega.{arith}
 use lib.IntN.{ℤ, ◌+ℤ◌, ◌-ℤ◌}
 use Rattle.integers.proofs.Difference.{val_of, zval}
 use Rattle.integers.proofs.Ring.{equal_if_difference_zero}
-use Rattle.cubic.specs.declared.differences.Cubic.{Cubic}
+use Rattle.cubic.specs.declared.differences.Differences.{Differences}
 use Rattle.cubic.specs.Differences.{delta, differences_at, next_of, nexts, IsCubic}
 
 -- Structs with equal fields are equal.
-pub same_fields : {v w a b c d x y : ℤ} → v ≡ w → a ≡ b → c ≡ d → x ≡ y →
-    ◌≡◌ {A = Cubic} (record { value = v; d1 = a; d2 = c; d3 = x }) (record { value = w; d1 = b; d2 = d; d3 = y })
+pub same_fields : {A : Type 0} {v w a b c d x y : A} → v ≡ w → a ≡ b → c ≡ d → x ≡ y →
+    ◌≡◌ {A = Differences A} (record { value = v; d1 = a; d2 = c; d3 = x }) (record { value = w; d1 = b; d2 = d; d3 = y })
 same_fields p q r s = rw (p, q, r, s)
 
 -- What is added to a is what b exceeds it by.

@@ -12,9 +12,8 @@ use Rattle.integers.proofs.Difference.{val_of, zval}
 use Rattle.integers.proofs.Test.{lt_z_true, lt_z_false, le_z_true, le_z_false}
 use Rattle.rounding.specs.Nearest.{Owns, AtMostOneApart}
 use Rattle.rounding.proofs.Owns.{owns_unique, move_up, move_down}
-use Rattle.cubic.specs.declared.differences.Cubic.{Cubic}
 use Rattle.cubic.specs.declared.axis.Axis.{Axis}
-use Rattle.cubic.specs.Differences.{delta, differences_at, next_of, IsCubic}
+use Rattle.cubic.specs.Differences.{Cubic, delta, differences_at, next_of, IsCubic}
 use Rattle.cubic.specs.Axis.{with_value, start_of, row_of, settle_of, step_of}
 use Rattle.cubic.specs.Tracks.{Doubles, Tracks, Remainder}
 use Rattle.cubic.proofs.Next.{delta_next, third_same}

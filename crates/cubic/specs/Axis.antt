@@ -1,9 +1,8 @@
 -- One axis of a drawing: its start, the decision of figure 2, the step, and the long-step test.
 use Rattle.std.specs.Prelude.{Bool, cond, ◌||◌, ℤ, pos, ◌+ℤ◌, ◌-ℤ◌, ◌*ℤ◌}
 use Rattle.std.specs.Int.Signed.{lt_z, le_z}
-use Rattle.cubic.specs.declared.differences.Cubic.{Cubic}
 use Rattle.cubic.specs.declared.axis.Axis.{Axis}
-use Rattle.cubic.specs.Differences.{next_of, heads_of}
+use Rattle.cubic.specs.Differences.{Cubic, next_of, heads_of}
 
 -- The same differences beside another value.
 abbrev pub with_value : ℤ → Cubic → Cubic

@@ -1,8 +1,8 @@
 -- Bounds under which every sum and product of the machine fits an i64: what each function requires.
 use Rattle.std.specs.Prelude.{List, ℕ, ◌*◌, ◌≤◌, ◌<◌, ◌^◌, ℤ, pos, get_or}
 use Rattle.integers.specs.Magnitude.{Within}
-use Rattle.cubic.specs.declared.differences.Cubic.{Cubic}
 use Rattle.cubic.specs.declared.axis.Axis.{Axis}
+use Rattle.cubic.specs.Differences.{Cubic, Every}
 
 -- Each of four integers is within Q.
 pub record Each (Q : ℕ) (q0 q1 q2 q3 : ℤ) : Type 0 where
@@ -36,11 +36,8 @@ pub record Startable (n q0 q1 q2 q3 : ℤ) : Type 0 where
   pub controls : Each size q0 q1 q2 q3
 
 -- Every field is within M.
-pub record Fields (M : ℕ) (c : Cubic) : Type 0 where
-  pub value : Within M c.value
-  pub d1 : Within M c.d1
-  pub d2 : Within M c.d2
-  pub d3 : Within M c.d3
+abbrev pub Fields : ℕ → Cubic → Type 0
+Fields M c = Every (Within M) c
 
 -- There is room for equation 8, and then for a move.
 abbrev pub Room : Cubic → Type 0

@@ -4,7 +4,7 @@ ghost use Rattle.std.specs.Prelude.{◌≡◌};
 ghost use Rattle.cubic.specs.Axis.{start_of, row_of, settle_of, step_of};
 ghost use Rattle.cubic.specs.Room.{Placed, Settles, Steps};
 
-use crate::differences::{Cubic, heads};
+use crate::differences::{Cubic, Forward};
 
 // `at` is the coordinate times the stride: 1, S and S × S are the strides of a grid, so that the three sum up to the
 // byte's place, and 1 is that of a listing.
@@ -22,12 +22,7 @@ impl Axis {
     {
         Axis {
             at: stride * point,
-            cubic: Cubic {
-                value: 0,
-                d1: c.d1,
-                d2: c.d2,
-                d3: c.d3,
-            },
+            cubic: Cubic { value: 0, ..c },
         }
     }
 
@@ -36,40 +31,30 @@ impl Axis {
     pub fn row(self, b: Cubic, c: Cubic, d: Cubic) -> Axis
         ensures { result ≡ row_of self b c d }
     {
-        let a = self.cubic;
-        let row = heads(a, b, c, d);
         Axis {
-            at: self.at,
-            cubic: row,
+            cubic: Cubic {
+                value: self.cubic.value,
+                d1: b.value,
+                d2: c.value,
+                d3: d.value,
+            },
+            ..self
         }
     }
 
     // Figure 2's decision, a half going down: the remainder against N and -N moves the coordinate up, down or not at all.
-    pub fn settle(self, scale: i64, stride: i64) -> Axis
+    pub fn settle(mut self, scale: i64, stride: i64) -> Axis
         requires { Settles scale stride self }
         ensures { result ≡ settle_of scale stride self }
     {
-        let two = scale + scale;
-        let low = 0 - scale;
-        let c = self.cubic;
-        let mut at = self.at;
-        let mut rem = c.value;
-        if rem > scale {
-            at += stride;
-            rem -= two;
-        } else if rem <= low {
-            at -= stride;
-            rem += two;
+        if self.cubic.value > scale {
+            self.at += stride;
+            self.cubic.value -= scale + scale;
+        } else if self.cubic.value <= -scale {
+            self.at -= stride;
+            self.cubic.value += scale + scale;
         }
-        Axis {
-            at,
-            cubic: Cubic {
-                value: rem,
-                d1: c.d1,
-                d2: c.d2,
-                d3: c.d3,
-            },
-        }
+        self
     }
 
     // The next sample: equation 8, then the decision.
@@ -77,12 +62,10 @@ impl Axis {
         requires { Steps scale stride self }
         ensures { result ≡ step_of scale stride self }
     {
-        let c = self.cubic;
-        let next = c.next();
-        let a = Axis {
-            at: self.at,
-            cubic: next,
-        };
-        a.settle(scale, stride)
+        Axis {
+            cubic: self.cubic.next(),
+            ..self
+        }
+        .settle(scale, stride)
     }
 }

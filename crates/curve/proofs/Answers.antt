@@ -1,31 +1,24 @@
--- What a check's answer says: it tells the answer, and an answer that is no refusal is that of an accepted curve.
-use mathlib.Core.Path.{◌≡◌, refl, sym, ◌∙◌, ap}
-use mathlib.Core.Bool.{Bool, true, false}
-use Prim.Native.Nat.{ℕ}
-use Rattle.decide.specs.Refusal.{Verdict, accepted, Outcome, gives, refuses, outcome}
-use Rattle.decide.proofs.Refusal.{answer_given}
-use Rattle.curve.specs.declared.CheckAnswer.{CheckAnswer}
-use Rattle.curve.specs.declared.CheckAnswer.TheVariants.{Walked, Quit, Refused}
-use Rattle.curve.specs.Curve.{check_answer_of}
-
--- The answer that says this.
-abbrev checking : Outcome Bool → CheckAnswer
-checking (gives true) = Quit
-checking (gives false) = Walked
-checking (refuses k) = Refused k
-
-checking_said : (r : CheckAnswer) → checking (check_answer_of r) ≡ r
-checking_said Walked = refl
-checking_said Quit = refl
-checking_said (Refused k) = refl
-
 -- The contract of a check fixes its answer.
-pub check_answer_unique : (r s : CheckAnswer) → check_answer_of r ≡ check_answer_of s → r ≡ s
-check_answer_unique r s e = sym (checking_said r) ∙ ap checking e ∙ checking_said s
+use mathlib.Core.Path.{◌≡◌, refl, sym, ◌∙◌, ap}
+use Prim.Native.Nat.{ℕ}
+use native.Mathlib.Omega.{arith}
+use Rattle.std.specs.Prelude.{cond, Result, Ok, Err}
+use Rattle.decide.specs.declared.Refusal.{Refusal}
+use Rattle.decide.specs.Verdict.{number_of}
+use Rattle.decide.proofs.Unique.{number_unique}
+use Rattle.curve.specs.declared.steps.StepTest.{StepTest}
+use Rattle.curve.specs.declared.steps.StepTest.TheVariants.{Walked, Quit}
+use Rattle.curve.specs.Curve.{has_quit, check_answer_of}
 
--- The arm of both accepted answers.
-pub not_refused : (r : CheckAnswer) (v : Verdict) (quit : Bool) → ((k : ℕ) → ¬ (r ≡ Refused k)) →
-    check_answer_of r ≡ outcome v quit → v ≡ accepted
-not_refused Walked v quit arm e = (answer_given v quit e).0
-not_refused Quit v quit arm e = (answer_given v quit e).0
-not_refused (Refused k) v quit arm e = absurd (arm k refl)
+-- What the test told, by whether it quit.
+told_by : (a : StepTest) → cond (has_quit a) Quit Walked ≡ a
+told_by Walked = refl
+told_by Quit = refl
+
+pub check_answer_unique : (r s : Result StepTest Refusal) → check_answer_of r ≡ check_answer_of s → r ≡ s
+check_answer_unique (Ok a) (Ok b) e =
+    let same : has_quit a ≡ has_quit b = cc in
+    ap Ok (sym (told_by a) ∙ ap (λ q. cond q Quit Walked) same ∙ told_by b)
+check_answer_unique (Ok a) (Err d) e = let z : ◌≡◌ {A = ℕ} 0 1 = cc in absurd (omega arith)
+check_answer_unique (Err d) (Ok b) e = let z : ◌≡◌ {A = ℕ} 0 1 = cc in absurd (omega arith)
+check_answer_unique (Err d) (Err f) e = let same : number_of d ≡ number_of f = cc in ap Err (number_unique d f same)

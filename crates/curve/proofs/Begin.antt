@@ -10,7 +10,6 @@ use Rattle.decide.specs.Refusal.{accepted}
 use Rattle.bezier.specs.Exact.{no_index, index, no_corner, first}
 use Rattle.neighbours.specs.Steps.{first as step}
 use Rattle.cube.specs.Cube.{Axis, x_axis, y_axis, z_axis, volume}
-use Rattle.drawing.specs.declared.Choice.{Choice}
 use Rattle.drawing.specs.Object.{offset, coordinate, scale_of}
 use Rattle.drawing.specs.Refusals.{Drawable, draw_verdict, list_verdict, sample_count}
 use Rattle.drawing.specs.Drawing.{marked, bytes, cells, drawn_by, drawn, listed}
@@ -18,9 +17,7 @@ use Rattle.drawing.proofs.Samples.{one_row}
 use Rattle.drawing.proofs.Listed.{samples_listed}
 use Rattle.cubic.specs.Differences.{differences_at}
 use Rattle.cubic.specs.Axis.{start_of}
-use Rattle.scan.specs.declared.walker.Strides.{Strides}
-use Rattle.scan.specs.declared.walker.Walker.{Walker}
-use Rattle.scan.specs.Walker.{axis_of, stride_of, grid_strides, list_strides, place_of, cell_of_walker, walkers, OnGrid}
+use Rattle.scan.specs.Walker.{Strides, Walker, axis_of, stride_of, grid_strides, list_strides, place_of, cell_of_walker, walkers, OnGrid}
 use Rattle.scan.proofs.Axes.{offset_small}
 use Rattle.scan.proofs.Samples.{Walk, At, along, corner_tracks, grid_stride, grid_stride_is, grid_stride_small, list_stride_is}
 use Rattle.scan.proofs.Samples.{row_on_grid, row_places, row_cells}
@@ -90,12 +87,12 @@ module _ {S : ℕ} (c : Curve) (twelve : length c.points ≡ 12) (d : Drawable S
       samples_listed S (curve_of c) list e ∙
       rw (one_row c.steps, row_cells list_row (start_at c d list_strides), one)
 
--- The same with the scale N, the strides h and the walker w as the code holds them, and with the choice that is told.
+-- The same with the scale N, the strides h and the walker w as the code holds them.
 module _ {S : ℕ} (c : Curve) (twelve : length c.points ≡ 12) (d : Drawable S (curve_of c)) {N : ℤ} {h : Strides} {w : Walker}
     (e : N ≡ pos (scale_of (curve_of c))) (f : h ≡ grid_strides S) (q : w ≡ start_walker c h) where
   pub room_for_row : {len : ℕ} → len ≡ volume S → OnGrid c.steps N h w len
   room_for_row v = rw (v, q, e, f) (row_on_grid (grid_row c twelve d) (start_at c d (grid_strides S)))
 
-  pub row_marks : (grid : List ℕ) → draw_verdict S (length grid) (curve_of c) ≡ accepted → {k : Choice} {after : List ℕ} →
-      c.choice ≡ k → after ≡ marked k c.mark (map place_of (walkers c.steps N h w)) grid → after ≡ drawn S (curve_of c) grid
-  row_marks grid a told r = rw (q, e, f, ← told) at r ∙ sym (drawn_row c twelve d grid a)
+  pub row_marks : (grid : List ℕ) → draw_verdict S (length grid) (curve_of c) ≡ accepted → {after : List ℕ} →
+      after ≡ marked c.choice c.mark (map place_of (walkers c.steps N h w)) grid → after ≡ drawn S (curve_of c) grid
+  row_marks grid a r = rw (q, e, f) at r ∙ sym (drawn_row c twelve d grid a)

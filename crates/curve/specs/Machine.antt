@@ -5,8 +5,7 @@ use Rattle.drawing.specs.Object.{scale_of}
 use Rattle.cubic.specs.Differences.{delta, differences_at}
 use Rattle.cubic.specs.Axis.{start_of, long_of}
 use Rattle.scan.specs.Column.{Below64, doubled_column}
-use Rattle.scan.specs.declared.walker.Strides.{Strides}
-use Rattle.scan.specs.declared.walker.Walker.{Walker}
+use Rattle.scan.specs.Walker.{Strides, Walker}
 use Rattle.curve.specs.declared.Curve.{Curve}
 use Rattle.curve.specs.Curve.{curve_of}
 

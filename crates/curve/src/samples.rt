@@ -13,8 +13,9 @@ ghost use Rattle.curve.specs.Machine.{InLimits, doubled_along, start_walker};
 use crate::Curve;
 use crate::steps::cubic_along;
 use cubic::axis::Axis;
-use drawing::Choice;
+use scan::mark::Ink;
 use scan::walker::{Strides, Walker};
+use scan::xyz::AXES;
 
 // Sample 0 on one axis.
 pub fn start_axis(curve: Curve, a: usize, stride: i64) -> Axis
@@ -23,12 +24,7 @@ pub fn start_axis(curve: Curve, a: usize, stride: i64) -> Axis
     requires small_stride { SmallStride stride }
     ensures { result ≡ start_of stride (pos (get_or curve.points a 0)) (differences_at (doubled_along curve a) 0) }
 {
-    let p = curve.points;
-    Axis::start(
-        stride,
-        scan::number::coordinate(p[a]),
-        cubic_along(curve, a),
-    )
+    Axis::start(stride, i64::from(curve.points[a]), cubic_along(curve, a))
 }
 
 // Sample 0: the cell of point 0.
@@ -37,15 +33,10 @@ pub fn start_walker(curve: Curve, h: Strides) -> Walker
     requires small_strides { SmallStrides h }
     ensures { result ≡ start_walker curve h }
 {
-    Walker {
-        x: start_axis(curve, 0, h.x),
-        y: start_axis(curve, 1, h.y),
-        z: start_axis(curve, 2, h.z),
-    }
+    AXES.with(h, |a, stride| start_axis(curve, a, stride))
 }
 
-// Marks the cells of an accepted curve's samples, over or under. Answers how many of them were unmarked before. The choice is
-// told once, outside the loop, which is compiled with each.
+// Marks the cells of an accepted curve's samples, over or under. Answers how many of them were unmarked before.
 pub fn mark_samples(side: u32, curve: Curve, grid: &mut [u8]) -> u32
     requires { draw_verdict side (length grid.old) (curve_of curve) ≡ accepted }
     ensures grid_after { result + unmarked_cells grid.new ≡ unmarked_cells grid.old }
@@ -54,13 +45,11 @@ pub fn mark_samples(side: u32, curve: Curve, grid: &mut [u8]) -> u32
     let h = scan::number::grid_strides(side);
     let start = start_walker(curve, h);
     let scale = scan::number::cubed(curve.steps);
-    let n = curve.steps;
-    let mark = curve.mark;
-    let choice = curve.choice;
-    match choice {
-        Choice::Over => scan::mark::mark_row(start, n, scale, h, mark, Choice::Over, grid),
-        Choice::Under => scan::mark::mark_row(start, n, scale, h, mark, Choice::Under, grid),
-    }
+    let ink = Ink {
+        mark: curve.mark,
+        choice: curve.choice,
+    };
+    ink.mark_row(start, curve.steps, scale, h, grid)
 }
 
 // Lists the cells of an accepted curve's samples.

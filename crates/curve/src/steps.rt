@@ -1,46 +1,46 @@
 // The test of one curve: its steps.
-ghost use Rattle.std.specs.Prelude.{◌≡◌, ◌≤◌, ◌<◌};
+ghost use Rattle.std.specs.Prelude.{◌≡◌, [], ◌∷◌, ◌≤◌, ◌<◌};
+ghost use Rattle.decide.specs.Refusal.{◌when◌, first_that};
+ghost use Rattle.decide.specs.Verdict.{verdict_of};
 ghost use Rattle.drawing.specs.Refusals.{steps_too_long};
 ghost use Rattle.gaps.specs.Gaps.{quits};
 ghost use Rattle.cubic.specs.Differences.{differences_at};
-ghost use Rattle.curve.specs.Curve.{curve_of, tells_long, tells_quit};
+ghost use Rattle.curve.specs.Curve.{curve_of, tells_quit};
 ghost use Rattle.curve.specs.Machine.{InLimits, doubled_along, long_between};
 
 use crate::Curve;
-use cubic::differences::Cubic;
+use cubic::differences::{Cubic, Forward};
+use decide::Refusal;
 
-// What the test tells: no step is too long, after a walk along all steps or without one, or a walk found a step that is.
-// In the order of `CheckAnswer`, so that a compiled check hands it on as it is.
+/// What the test tells of a curve with no step too long: it walked along all steps, or it quit.
 #[derive(Clone, Copy)]
 pub enum StepTest {
     Walked,
     Quit,
-    TooLong,
 }
 
-// The test quits where the gaps say that no step is too long, and else it walks.
-pub fn test_steps(curve: Curve) -> StepTest
+// The test quits where the gaps say that no step is too long, and else it walks. Refused: 15.
+pub fn test_steps(curve: Curve) -> Result<StepTest, Refusal>
     requires { InLimits curve }
-    ensures { (tells_long result ≡ steps_too_long (curve_of curve)) × (tells_quit result ≡ quits curve.points curve.steps) }
+    ensures refused { verdict_of result ≡ first_that (15 when steps_too_long (curve_of curve) ∷ []) }
+    ensures quit { tells_quit result ≡ quits curve.points curve.steps }
 {
-    let points = curve.points;
-    if gaps::does_quit(&points, curve.steps) {
-        StepTest::Quit
-    } else if step_too_long(curve) {
-        StepTest::TooLong
-    } else {
-        StepTest::Walked
+    if gaps::does_quit(&curve.points, curve.steps) {
+        return Ok(StepTest::Quit);
     }
+    if step_too_long(curve) {
+        return Err(Refusal::LongStep);
+    }
+    Ok(StepTest::Walked)
 }
 
-// Sample 0 along one axis, by its number: coordinate a of each point.
+// Sample 0 along one axis, by its number, since the search below goes over a range of them: coordinate a of each point.
 pub(crate) fn cubic_along(curve: Curve, a: usize) -> Cubic
     requires in_limits { InLimits curve }
     requires a_bound { a < 3 }
     ensures { result ≡ differences_at (doubled_along curve a) 0 }
 {
-    let p = curve.points;
-    scan::number::start_column(&p, curve.steps, 3, a)
+    scan::number::start_column(&curve.points, curve.steps, 3, a)
 }
 
 // Some two neighbouring samples lie more than one cell apart on some axis.
@@ -52,7 +52,7 @@ fn step_too_long(curve: Curve) -> bool
 }
 
 // The same on an axis from one number up to another, that one not included. The search is left at the first such step, and
-// forms no difference past the last.
+// forms no difference past the last. Its form is one that document 01 names: nested loops, left from inside by a label.
 pub fn long_between(curve: Curve, from: usize, to: usize) -> bool
     requires in_limits { InLimits curve }
     requires from_le_to { (from ≤ to) × (to ≤ 3) }

@@ -12,7 +12,7 @@ use Rattle.decide.specs.Some.{some_of}
 use Rattle.decide.specs.Refusal.{accepted, first_that}
 use Rattle.decide.proofs.Truth.{neither, not_less, less, equal, true_of, false_of, false_iff, decided}
 use Rattle.decide.proofs.Some.{some_of_lem}
-use Rattle.decide.proofs.Refusal.{NoneApplies, accepted_none}
+use Rattle.decide.proofs.FirstThat.{NoneApplies, accepted_none}
 use Rattle.neighbours.specs.Steps.{too_long, LongStep}
 use Rattle.neighbours.proofs.Long.{too_long_lem}
 use Rattle.cube.specs.Cube.{Axis, volume}

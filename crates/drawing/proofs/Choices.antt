@@ -4,7 +4,7 @@ use mathlib.Core.List.{List, map}
 use Prim.Native.Nat.{ℕ, ◌-◌}
 use lib.ListN.{length}
 use Rattle.decide.specs.Refusal.{accepted}
-use Rattle.decide.proofs.Refusal.{by_verdict}
+use Rattle.decide.proofs.FirstThat.{by_verdict}
 use Rattle.cube.specs.Cube.{place}
 use Rattle.drawing.specs.declared.Choice.{Choice}
 use Rattle.drawing.specs.Object.{Object, exact, cell_of, going}

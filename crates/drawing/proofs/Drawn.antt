@@ -7,7 +7,7 @@ use mathlib.Core.List.{List, map, Memᴰ}
 use Prim.Native.Nat.{ℕ, ◌≤◌, ◌<◌}
 use lib.ListN.{length, get_or}
 use Rattle.decide.specs.Refusal.{accepted, refused}
-use Rattle.decide.proofs.Refusal.{by_verdict}
+use Rattle.decide.proofs.FirstThat.{by_verdict}
 use Rattle.cube.specs.Cube.{Cell, Inside, place, volume}
 use Rattle.drawing.specs.Object.{Object, cell_of}
 use Rattle.drawing.specs.Refusals.{draw_verdict}

@@ -10,7 +10,7 @@ use lib.Dec.{lit<}
 use lib.Seq.{get_or-append-add, get_or-drop, get_or_at}
 use Rattle.decide.proofs.Some.{below_or_last}
 use Rattle.decide.specs.Refusal.{accepted, refused}
-use Rattle.decide.proofs.Refusal.{by_verdict}
+use Rattle.decide.proofs.FirstThat.{by_verdict}
 use Rattle.cube.specs.Cube.{Axis, x_axis, y_axis, z_axis, Cell}
 use Rattle.drawing.specs.declared.Choice.{Choice}
 use Rattle.drawing.specs.Object.{Object, curve, offset, cell_of}

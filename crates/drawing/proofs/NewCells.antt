@@ -11,7 +11,7 @@ use native.Mathlib.Omega.{arith}
 use lib.Dec.{eqb}
 use lib.ListN.{length, get_or, set, replicate, length-set}
 use Rattle.decide.specs.Refusal.{accepted}
-use Rattle.decide.proofs.Refusal.{by_verdict}
+use Rattle.decide.proofs.FirstThat.{by_verdict}
 use Rattle.decide.proofs.Truth.{decided, true_of, false_of, same_test, equal}
 use Rattle.cube.specs.Cube.{place}
 use Rattle.drawing.specs.declared.Choice.{Choice}

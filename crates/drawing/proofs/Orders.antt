@@ -8,7 +8,7 @@ use Prim.Native.Nat.{ℕ}
 use lib.ListN.{take}
 use Rattle.decide.specs.Some.{some_of}
 use Rattle.decide.specs.Refusal.{refused, first_that, numbers}
-use Rattle.decide.proofs.Refusal.{NoneApplies, refused_at}
+use Rattle.decide.proofs.FirstThat.{NoneApplies, refused_at}
 use Rattle.decide.proofs.Truth.{true_of}
 use Rattle.neighbours.specs.Steps.{LongStep}
 use Rattle.cube.specs.Cube.{Axis}

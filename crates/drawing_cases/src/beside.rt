@@ -1,17 +1,14 @@
 // Calls on the strip, each beside that of the main path, which is lent bytes that hold the same.
-ghost use Rattle.std.specs.Prelude.{◌≡◌, length};
-
 use crate::calls::{curve_of, patch_of};
 use crate::twice::answered;
 use both_ways::Said;
 use both_ways::calls::{drawn, held};
-use cases::lent::Answer;
+use cases::answer::Answer;
 use cases::record::number;
+use decide::Refusal;
 
-// Draws a curve.
-pub(crate) fn draw_strip_curve(case: &[u8], grid: &mut [u8], again: &mut [u8]) -> Answer
-    requires { length case.now ≡ 199 }
-{
+// Draws a curve. It is two calls of its own kind, as a patch is below: nothing but their order is shared.
+pub(crate) fn draw_strip_curve(case: &[u8; 199], grid: &mut [u8], again: &mut [u8]) -> Answer<5> {
     let side = number(case, 0);
     let curve = curve_of(case);
     let one = drawn(strip::draw_strip_curve(side, curve, grid));
@@ -20,9 +17,7 @@ pub(crate) fn draw_strip_curve(case: &[u8], grid: &mut [u8], again: &mut [u8]) -
 }
 
 // Draws a patch.
-pub(crate) fn draw_strip_patch(case: &[u8], grid: &mut [u8], again: &mut [u8]) -> Answer
-    requires { length case.now ≡ 199 }
-{
+pub(crate) fn draw_strip_patch(case: &[u8; 199], grid: &mut [u8], again: &mut [u8]) -> Answer<5> {
     let side = number(case, 0);
     let patch = patch_of(case);
     let one = drawn(strip::draw_strip_patch(side, patch, grid));
@@ -30,16 +25,11 @@ pub(crate) fn draw_strip_patch(case: &[u8], grid: &mut [u8], again: &mut [u8]) -
     answered_beside(one, other, grid, again)
 }
 
-// The strip's answer: where it is a number of its own, or where that of the main path is the same and the lent bytes are.
-fn answered_beside(one: Said, other: Said, lent: &[u8], again: &[u8]) -> Answer {
-    if is_own_refusal(one) {
-        held(one, lent)
-    } else {
-        answered(one, other, lent, again)
+// The strip's answer: where it is a refusal of its own, 23 or 24, which the main path does not have, or where that of the
+// main path is the same and the lent bytes are.
+fn answered_beside(one: Said, other: Said, lent: &[u8], again: &[u8]) -> Answer<5> {
+    match one {
+        Err(Refusal::StripSide | Refusal::StripSteps) => held(one, lent),
+        _ => answered(one, other, lent, again),
     }
-}
-
-// Whether the strip refuses with 23 or 24, which the main path does not have.
-fn is_own_refusal(said: Said) -> bool {
-    said.letter == b'R' && (said.number == 23 || said.number == 24)
 }

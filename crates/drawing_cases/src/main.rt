@@ -52,123 +52,100 @@ mod flips;
 mod once;
 mod twice;
 
-ghost use Rattle.std.specs.Prelude.{◌≡◌, ◌*◌, ◌≤◌, length};
+ghost use Rattle.std.specs.Prelude.{◌≡◌, length};
 
-use cases::block::Progress;
-use cases::bytes::{copy, front};
-use cases::lent::Answer;
+use crate::calls::{counted, curve_checked};
+use crate::twice::{with_curve, with_patch};
+use both_ways::calls::{checked, drawn};
+use cases::answer::Answer;
+use cases::block::{Answers, answer_block};
 use cases::record::number;
-use cases::turns::Turns;
+use cases::run::{Stop, run};
 use std::io::{Stdin, Stdout};
+
+// The buffer, and the bytes that are lent to a second call.
+#[derive(Drop)]
+struct Buffers<'a> {
+    buffer: &'a mut [u8; 262144],
+    second: &'a mut [u8; 262144],
+}
 
 fn main(rt: HostRuntime) {
     let mut buffer = [0u8; 262144];
     let mut second = [0u8; 262144];
-    let mut turns = Turns::all();
-    while turns.left > 0 {
-        let progress = answer_block(rt.stdin(), rt.stdout(), &mut buffer, &mut second);
-        turns = turns.after(progress, rt.stdout(), rt.stderr());
-    }
+    let mut buffers = Buffers {
+        buffer: &mut buffer,
+        second: &mut second,
+    };
+    run(rt.stdout(), rt.stderr(), || {
+        answer_next(rt.stdin(), rt.stdout(), &mut buffers)
+    });
 }
 
 // Answers the next 1,024 cases, or as many as are left.
-fn answer_block(input: Stdin, output: Stdout, buffer: &mut [u8], second: &mut [u8]) -> Progress {
+fn answer_next(input: Stdin, output: Stdout, buffers: &mut Buffers) -> Result<(), Stop> {
     let mut records = [0u8; 203776];
     let mut answers = [0u8; 48128];
-    answer_input(input, output, &mut records, &mut answers, buffer, second)
+    answer_block::<199, 47, 5, Buffers>(input, output, &mut records, &mut answers, buffers)
 }
 
-// Reads cases until their buffer is full or the input ends, and writes the answers.
-fn answer_input(
-    input: Stdin,
-    output: Stdout,
-    records: &mut [u8],
-    answers: &mut [u8],
-    buffer: &mut [u8],
-    second: &mut [u8],
-) -> Progress
-    requires { (length records.old ≡ 203776) × (length answers.old ≡ 48128) }
-{
-    let block = cases::block::read_records(input, records, 199);
-    let then = block.then;
-    answer_cases(records, block.count, answers, buffer, second);
-    cases::block::write_answers(output, answers, block.count * 47, then)
-}
-
-// Answers each case with the record of the same number.
-fn answer_cases(
-    records: &[u8],
-    count: usize,
-    answers: &mut [u8],
-    buffer: &mut [u8],
-    second: &mut [u8],
-)
-    requires count_in_bounds { count * 199 ≤ length records.now }
-    requires count_in_bounds_2 { count * 47 ≤ length answers.old }
-    ensures { length answers.new ≡ length answers.old }
-{
-    let mut k = 0;
-    while k < count {
-        let answer = answer_case(cases::record::nth(records, k, 199), buffer, second);
-        let numbers = answer.numbers;
-        cases::answer::put_answer(answer.letter, answer.hexadecimal, &numbers, answers, k * 47);
-        k += 1;
+impl Answers<199, 5> for Buffers<'_> {
+    fn answer(&mut self, case: &[u8; 199]) -> Answer<5> {
+        answer_case(case, self.buffer, self.second)
     }
 }
 
 // The answer to one case.
-fn answer_case(case: &[u8], buffer: &mut [u8], second: &mut [u8]) -> Answer
-    requires { length case.now ≡ 199 }
-{
-    if !cases::record::is_case(case) {
-        return cases::lent::none();
+fn answer_case(
+    case: &[u8; 199],
+    buffer: &mut [u8; 262144],
+    second: &mut [u8; 262144],
+) -> Answer<5> {
+    if case[0] == b'S' {
+        return cases::lent::show(case, buffer);
     }
-    match case[0] {
-        b'S' => cases::lent::show(case, buffer),
-        b'C' => twice::check_curve(case),
-        b'M' => twice::choose_steps(case),
-        b'Q' => twice::check_patch(case),
-        _ => answer_lent(case, buffer, second),
+    let count = match case[0] {
+        b'C' | b'M' | b'Q' => 0,
+        _ => number(case, 3) as usize,
+    };
+    if buffer.len() < count {
+        return Answer::none();
     }
-}
-
-// The answer to a case that is lent bytes of the buffer.
-fn answer_lent(case: &[u8], buffer: &mut [u8], second: &mut [u8]) -> Answer
-    requires { length case.now ≡ 199 }
-{
-    let count = number(case, 3) as usize;
-    if buffer.len() < count || second.len() < count {
-        return cases::lent::none();
-    }
-    answer_within(case, front(buffer, count), front(second, count))
+    answer_lent(case, &mut buffer[..count], &mut second[..count])
 }
 
 // The answer to a case that is lent these bytes, and others for a second call.
-fn answer_within(case: &[u8], lent: &mut [u8], again: &mut [u8]) -> Answer
-    requires { length case.now ≡ 199 }
+fn answer_lent(case: &[u8; 199], lent: &mut [u8], again: &mut [u8]) -> Answer<5>
+    requires { length lent.old ≡ length again.old }
 {
+    again.copy_from_slice(lent);
     match case[0] {
         b'F' => cases::lent::fill(case, lent),
         b'T' => once::draw_path(case, lent),
         b'U' => once::list_path(case, lent),
         b'V' => flips::flip_curve(case, lent),
         b'X' => flips::flip_patch(case, lent),
-        _ => answer_twice(case, lent, again),
-    }
-}
-
-// The answer to a case that makes two calls, which are lent the same bytes.
-fn answer_twice(case: &[u8], lent: &mut [u8], again: &mut [u8]) -> Answer
-    requires { length case.now ≡ 199 }
-{
-    copy(lent, again);
-    match case[0] {
-        b'D' => twice::draw_curve(case, lent, again),
+        b'C' => with_curve(case, lent, again, |side, curve, _| {
+            curve_checked(curve::check_curve(side, curve))
+        }),
+        b'M' => with_curve(case, lent, again, |side, curve, _| {
+            counted(chosen::choose_steps(side, curve))
+        }),
+        b'Q' => with_patch(case, lent, again, |side, patch, _| {
+            checked(patch::check_patch(side, patch))
+        }),
+        b'D' => with_curve(case, lent, again, |side, curve, grid| {
+            drawn(curve::draw_curve(side, curve, grid))
+        }),
+        b'W' => with_curve(case, lent, again, |side, curve, grid| {
+            drawn(chosen::draw_chosen(side, curve, grid))
+        }),
+        b'P' => with_patch(case, lent, again, |side, patch, grid| {
+            drawn(patch::draw_patch(side, patch, grid))
+        }),
         b'L' => twice::list_curve(case, lent, again),
-        b'W' => twice::draw_chosen(case, lent, again),
-        b'P' => twice::draw_patch(case, lent, again),
         b'G' => beside::draw_strip_curve(case, lent, again),
         b'H' => beside::draw_strip_patch(case, lent, again),
-        _ => cases::lent::none(),
+        _ => Answer::none(),
     }
 }

@@ -1,93 +1,68 @@
 // Calls made twice: with the record of a case, and with its flip. The second call is lent bytes that hold the same.
-ghost use Rattle.std.specs.Prelude.{◌≡◌, length};
-
-use crate::calls::{counted, curve_checked, curve_of, listed, patch_of, rest_after};
-use both_ways::calls::{checked, drawn, held_if};
+use crate::calls::{counted, curve_of, patch_of};
+use both_ways::calls::held_if;
 use both_ways::{Said, agree, same_answer, same_from};
-use cases::lent::Answer;
+use cases::answer::Answer;
 use cases::record::number;
+use curve::Curve;
 use flip::{flip_curve, flip_patch};
+use patch::Patch;
 
-// Draws a curve.
-pub(crate) fn draw_curve(case: &[u8], grid: &mut [u8], again: &mut [u8]) -> Answer
-    requires { length case.now ≡ 199 }
+// Makes a call, by its side and curve, with a case's curve and with the flip of it.
+pub(crate) fn with_curve<F: FnMut(u32, Curve, &mut [u8]) -> Said>(
+    case: &[u8; 199],
+    lent: &mut [u8],
+    again: &mut [u8],
+    call: F,
+) -> Answer<5>
+    requires { F.IsAlwaysCallable call }
 {
-    let side = number(case, 0);
     let curve = curve_of(case);
-    let one = drawn(curve::draw_curve(side, curve, grid));
-    let other = drawn(curve::draw_curve(side, flip_curve(curve), again));
-    answered(one, other, grid, again)
+    both(number(case, 0), curve, flip_curve(curve), lent, again, call)
 }
 
-// Draws a curve with a chosen count.
-pub(crate) fn draw_chosen(case: &[u8], grid: &mut [u8], again: &mut [u8]) -> Answer
-    requires { length case.now ≡ 199 }
+// Makes a call, by its side and patch, with a case's patch and with the flip of it.
+pub(crate) fn with_patch<F: FnMut(u32, Patch, &mut [u8]) -> Said>(
+    case: &[u8; 199],
+    lent: &mut [u8],
+    again: &mut [u8],
+    call: F,
+) -> Answer<5>
+    requires { F.IsAlwaysCallable call }
 {
-    let side = number(case, 0);
-    let curve = curve_of(case);
-    let one = drawn(chosen::draw_chosen(side, curve, grid));
-    let other = drawn(chosen::draw_chosen(side, flip_curve(curve), again));
-    answered(one, other, grid, again)
-}
-
-// Draws a patch.
-pub(crate) fn draw_patch(case: &[u8], grid: &mut [u8], again: &mut [u8]) -> Answer
-    requires { length case.now ≡ 199 }
-{
-    let side = number(case, 0);
     let patch = patch_of(case);
-    let one = drawn(patch::draw_patch(side, patch, grid));
-    let other = drawn(patch::draw_patch(side, flip_patch(patch), again));
-    answered(one, other, grid, again)
+    both(number(case, 0), patch, flip_patch(patch), lent, again, call)
+}
+
+// Makes a call with a record and with its flip.
+fn both<R, F: FnMut(u32, R, &mut [u8]) -> Said>(
+    side: u32,
+    record: R,
+    flipped: R,
+    lent: &mut [u8],
+    again: &mut [u8],
+    mut call: F,
+) -> Answer<5>
+    requires { F.IsAlwaysCallable call }
+{
+    let one = call(side, record, lent);
+    let other = call(side, flipped, again);
+    answered(one, other, lent, again)
 }
 
 // Lists a curve: the cells of its flip are to be the same in reverse order, and the rest of both lists as it was.
-pub(crate) fn list_curve(case: &[u8], list: &mut [u8], again: &mut [u8]) -> Answer
-    requires { length case.now ≡ 199 }
-{
+pub(crate) fn list_curve(case: &[u8; 199], list: &mut [u8], again: &mut [u8]) -> Answer<5> {
     let side = number(case, 0);
     let curve = curve_of(case);
     let one = curve::list_curve(side, curve, list);
     let other = curve::list_curve(side, flip_curve(curve), again);
-    let both = agree(one, other, list, again) && same_from(list, again, rest_after(one));
-    held_if(both, listed(one), list)
-}
-
-// Checks a curve.
-pub(crate) fn check_curve(case: &[u8]) -> Answer
-    requires { length case.now ≡ 199 }
-{
-    let side = number(case, 0);
-    let curve = curve_of(case);
-    let one = curve_checked(curve::check_curve(side, curve));
-    let other = curve_checked(curve::check_curve(side, flip_curve(curve)));
-    answered(one, other, b"", b"")
-}
-
-// Chooses the step count of a curve.
-pub(crate) fn choose_steps(case: &[u8]) -> Answer
-    requires { length case.now ≡ 199 }
-{
-    let side = number(case, 0);
-    let curve = curve_of(case);
-    let one = counted(chosen::choose_steps(side, curve));
-    let other = counted(chosen::choose_steps(side, flip_curve(curve)));
-    answered(one, other, b"", b"")
-}
-
-// Checks a patch.
-pub(crate) fn check_patch(case: &[u8]) -> Answer
-    requires { length case.now ≡ 199 }
-{
-    let side = number(case, 0);
-    let patch = patch_of(case);
-    let one = checked(patch::check_patch(side, patch));
-    let other = checked(patch::check_patch(side, flip_patch(patch)));
-    answered(one, other, b"", b"")
+    let rest = one.map_or(0, |count| 3 * count as usize);
+    let both = agree(one, other, list, again) && same_from(list, again, rest);
+    held_if(both, counted(one), list)
 }
 
 // The first answer, where the second is the same and the lent bytes are.
-pub(crate) fn answered(one: Said, other: Said, lent: &[u8], again: &[u8]) -> Answer {
+pub(crate) fn answered(one: Said, other: Said, lent: &[u8], again: &[u8]) -> Answer<5> {
     let both = same_answer(one, other) && same_from(lent, again, 0);
     held_if(both, one, lent)
 }

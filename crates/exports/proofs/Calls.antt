@@ -1,28 +1,31 @@
 -- What the calls' contracts say of signed answers.
 use mathlib.Core.Path.{◌≡◌, refl, sym, ◌∙◌, ap}
 use mathlib.Core.List.{List, [], ◌∷◌}
-use Prim.Native.Nat.{ℕ, ◌≤◌, ◌<◌}
+use Prim.Native.Nat.{ℕ, zero, suc, ◌≤◌, ◌<◌}
 use native.Mathlib.Omega.{arith}
 use lib.IntN.{ℤ, pos}
 use lib.ListN.{length}
 use borrow.Author.Tests.{ne_eqb, eq-eqb}
+use Rattle.std.specs.Prelude.{Result, Ok, Err}
+use Rattle.drawing.specs.declared.Choice.{Choice}
+use Rattle.drawing.specs.ChoiceNumber.{choice_at}
+use Rattle.decide.specs.declared.Refusal.{Refusal}
+use Rattle.decide.specs.Verdict.{number_of, outcome_of}
 use Rattle.decide.specs.Refusal as refusal
 use Rattle.decide.specs.Refusal.{Rule, ◌when◌, Verdict, accepted, refused, Outcome, gives, outcome, first_that, or_else}
 use Rattle.decide.proofs.Truth.{true_of, false_of, less}
-use Rattle.decide.proofs.Refusal.{telling_outcome, first_applies, first_passes}
+use Rattle.decide.proofs.FirstThat.{telling_outcome, first_applies, first_passes}
 use Rattle.drawing.specs.Object.{Object}
 use Rattle.drawing.specs.Refusals.{check_verdict}
 use Rattle.drawing.specs.Drawing.{Drawing, Listing}
 use Rattle.drawing.specs.NewCells.{new_cells}
 use Rattle.scan.specs.declared.answer.Drawn.{Drawn}
-use Rattle.scan.specs.declared.answer.DrawAnswer.{DrawAnswer}
-use Rattle.scan.specs.declared.answer.ListAnswer.{ListAnswer}
-use Rattle.scan.specs.Answer.{draw_answer_of, Draws, list_answer_of, Lists}
+use Rattle.scan.specs.Answer.{Draws, Lists}
 use Rattle.scan.proofs.Orders.{draws_refused}
 use Rattle.scan.proofs.Alike.{Alike, same_grid}
 use Rattle.flip.specs.Flip.{exchanged}
 use Rattle.exports.specs.Signed.{minus, signed_of, signed, other_length, own_first}
-use Rattle.exports.specs.Records.{no_choice, record_order, draw_order, Calls, ChecksBytes, answer_of, new_cells_after, DrawsBytes}
+use Rattle.exports.specs.Records.{choice_of, no_choice, record_order, draw_order, Calls, ChecksBytes, answer_of, new_cells_after, DrawsBytes}
 use Rattle.exports.specs.Records.{ListsBytes, flip_order, FlipsBytes, FlipsPatchBytes}
 
 -- A record has its length or not, and for a drawing the choice is one or not.
@@ -48,6 +51,22 @@ module _ (size : ℕ) (bytes : List ℕ) where
     right_choice {k} h =
         past_length (55 when no_choice k ∷ []) ∙
         first_passes 55 (no_choice k) [] (false_of (no_choice k) (λ t. omega (arith, h, (less 1 k).0 t)))
+
+-- A choice's number is 0 or 1, and what `Choice::try_from` answers of it its choice; of any other number it answers 55.
+pub no_choice_at : (number : ℕ) {e : Refusal} → Err e ≡ choice_at number → 1 < number
+no_choice_at zero h = let z : ◌≡◌ {A = ℕ} 0 1 = cc in absurd (omega arith)
+no_choice_at (suc zero) h = let z : ◌≡◌ {A = ℕ} 0 1 = cc in absurd (omega arith)
+no_choice_at (suc (suc k)) h = omega arith
+
+pub choice_at_most : (number : ℕ) {c : Choice} → Ok c ≡ choice_at number → number ≤ 1
+choice_at_most zero h = omega arith
+choice_at_most (suc zero) h = omega arith
+choice_at_most (suc (suc k)) h = let z : ◌≡◌ {A = ℕ} 0 1 = cc in absurd (omega arith)
+
+pub same_choice : (number : ℕ) {c : Choice} → Ok c ≡ choice_at number → c ≡ choice_of number
+same_choice zero h = cc
+same_choice (suc zero) h = cc
+same_choice (suc (suc k)) h = let z : ◌≡◌ {A = ℕ} 0 1 = cc in absurd (omega arith)
 
 -- Where a number of the interface's own applies the call is refused with it, and else it is left to itself.
 module _ (own : List Rule) (v : Verdict) (n : ℕ) {r : ℤ} where
@@ -97,8 +116,8 @@ module _ (size : ℕ) (points : List ℕ) (l : Listing) (list : List ℕ) where
   wrong_listing w e = own_call (record_order size points) _ _ _ _ (wrong_length size points [] w) e
 
   -- By the listing that the record's bytes stand for.
-  pub right_listing : (p : Listing) {after : List ℕ} {a : ListAnswer} {r : ℤ} →
-      length points ≡ size → p ≡ l → Lists p list after a → r ≡ signed_of (list_answer_of a) → ListsBytes size points l list after r
+  pub right_listing : (p : Listing) {after : List ℕ} {a : Result ℕ Refusal} {r : ℤ} →
+      length points ≡ size → p ≡ l → Lists p list after a → r ≡ signed_of (outcome_of a) → ListsBytes size points l list after r
   right_listing p h same t e =
       let t' = rw same at t in
       passed_call (record_order size points) _ _ _ _ (right_length size points h) t'.answer t'.leaves e
@@ -125,9 +144,9 @@ module _ (size : ℕ) (points : List ℕ) (choice : ℕ) (d : Drawing) (grid : L
   wrong_number h w e = refused_drawing (wrong_choice size points h w) e
 
   -- By the drawing that the record's bytes and the choice's number stand for.
-  pub right_drawing : (p : Drawing) {after : List ℕ} {a : DrawAnswer} {new newNow : ℕ} {r : ℤ} →
+  pub right_drawing : (p : Drawing) {after : List ℕ} {a : Result Drawn Refusal} {new newNow : ℕ} {r : ℤ} →
       length points ≡ size → choice ≤ 1 → p ≡ d → Draws p grid after a →
-      r ≡ signed_of (answer_of (draw_answer_of a)) → newNow ≡ new_cells_after (draw_answer_of a) new →
+      r ≡ signed_of (answer_of (outcome_of a)) → newNow ≡ new_cells_after (outcome_of a) new →
       DrawsBytes size points choice d grid after new newNow r
   right_drawing p {after} {new = new} h k same t e q =
       let v : Verdict = d.verdict (length grid) in
@@ -146,9 +165,9 @@ module _ (size : ℕ) (points : List ℕ) (choice : ℕ) (d : Drawing) (grid : L
       new_outcome (refused k) d new = refl
 
   -- Refused by the call's own order.
-  pub own_number : {k new : ℕ} {r : ℤ} → length points ≡ size → choice ≤ 1 → d.verdict (length grid) ≡ refused k → r ≡ minus k →
-      DrawsBytes size points choice d grid grid new new r
-  own_number h c v e = right_drawing d h c refl (draws_refused d grid v) e refl
+  pub own_number : (why : Refusal) {new : ℕ} {r : ℤ} → length points ≡ size → choice ≤ 1 →
+      d.verdict (length grid) ≡ refused (number_of why) → r ≡ minus (number_of why) → DrawsBytes size points choice d grid grid new new r
+  own_number why h c v e = right_drawing d h c refl (draws_refused d grid v refl) e refl
 
   -- As another drawing that does the same.
   pub as_another : (p : Drawing) → Alike p d → {after : List ℕ} {new newNow : ℕ} {r : ℤ} →

@@ -1,17 +1,20 @@
 -- What swatch calls' contracts say of signed answers.
 use mathlib.Core.Path.{◌≡◌, refl, sym, ◌∙◌, ap, subst}
-use mathlib.Core.Bool.{Bool, false, not}
+use mathlib.Core.Bool.{Bool, true, false, not}
 use mathlib.Core.List.{List, [], ◌∷◌, ◌++◌}
-use Prim.Native.Nat.{ℕ, suc, ◌+◌, ◌≤◌}
+use Prim.Native.Nat.{ℕ, ◌-◌}
 use native.Mathlib.Omega.{arith}
 use borrow.Author.Tests.{eq-eqb, ne_eqb}
 use lib.Dec.{T}
 use lib.IntN.{ℤ, pos}
 use lib.Ieee.{Float, nan, inf, fin, le, is_nan}
 use lib.ListN.{length, set, take, drop, drop_of_length-le}
-use lib.Seq.{sets-eq, drop-drop}
+use Rattle.std.specs.Prelude.{cond, Result, Ok, Err}
+use Rattle.decide.specs.declared.Refusal.{Refusal}
+use Rattle.decide.specs.declared.Refusal.TheVariants as why
+use Rattle.swatch.specs.declared.Swatch.{Swatch}
 use Rattle.decide.specs.Refusal.{Verdict, Rule, ◌when◌, first_that, accepted, refused}
-use Rattle.decide.proofs.Refusal.{first_applies, first_passes}
+use Rattle.decide.proofs.FirstThat.{first_applies, first_passes}
 use Rattle.exports.specs.Signed.{minus, signed, other_length}
 use Rattle.exports.specs.Swatches.{channel_bytes, Fills}
 
@@ -62,29 +65,26 @@ module _ (size : ℕ) (bytes : List ℕ) (wrong : Bool) (rules : List Rule) wher
       first_passes 53 wrong (52 when other_length size bytes ∷ rules) g
       ∙ first_passes 52 (other_length size bytes) rules (rw (eq-eqb (length bytes) size e))
 
--- Four bytes are written from byte i on.
-pub four_bytes : (l : List ℕ) (i a b c d : ℕ) → i + 4 ≤ length l →
-    set (set (set (set l i a) (i + 1) b) (i + 2) c) (i + 3) d ≡ take i l ++ (a ∷ b ∷ c ∷ d ∷ []) ++ drop (i + 4) l
-four_bytes l i a b c d h =
-    let e1 : i + 1 ≡ suc i = omega arith in
-    let e2 : i + 2 ≡ suc (suc i) = omega arith in
-    let e3 : i + 3 ≡ suc (suc (suc i)) = omega arith in
-    rw (e1, e2, e3) (sets-eq (a ∷ b ∷ c ∷ d ∷ []) l i h)
+-- A kind of swatch that does not exist has no swatch, and one that does its own.
+pub wrong_kind : (wrong : Bool) (w : Swatch) {e : Refusal} → Err e ≡ cond wrong (Err why.Kind) (Ok w) → wrong ≡ true
+wrong_kind true w h = refl
+wrong_kind false w h = let z : ◌≡◌ {A = ℕ} 0 1 = cc in absurd (omega arith)
 
-none_left : (l : List ℕ) → length l ≡ 12 → drop 4 (drop 4 (drop 4 l)) ≡ []
-none_left l e =
-    drop-drop 4 4 (drop 4 l) ∙ drop-drop 8 4 l ∙ drop_of_length-le l (at_most e)
-  where
-    at_most : {n : ℕ} → n ≡ 12 → n ≤ 12
-    at_most e = omega (arith, e)
+pub right_kind : (wrong : Bool) (w : Swatch) {v : Swatch} → Ok v ≡ cond wrong (Err why.Kind) (Ok w) → (wrong ≡ false) × (v ≡ w)
+right_kind true w h = let z : ◌≡◌ {A = ℕ} 0 1 = cc in absurd (omega arith)
+right_kind false w h = (refl, cc)
 
--- Twelve bytes are written, four at a time.
-pub twelve_bytes : (l n1 n2 n3 : List ℕ) (r g b : Float) → length l ≡ 12 →
-    n1 ≡ take 0 l ++ channel_bytes r ++ drop 4 l → n2 ≡ take 4 n1 ++ channel_bytes g ++ drop 8 n1 →
-    n3 ≡ take 8 n2 ++ channel_bytes b ++ drop 12 n2 → n3 ≡ channel_bytes r ++ channel_bytes g ++ channel_bytes b
-twelve_bytes l n1 n2 n3 r g b e p q s =
-    s ∙ ap (λ n. take 8 n ++ channel_bytes b ++ drop 12 n) (q ∙ ap (λ n. take 4 n ++ channel_bytes g ++ drop 8 n) p) ∙
-    ap (λ t. channel_bytes r ++ channel_bytes g ++ channel_bytes b ++ t) (none_left l e)
+-- Three channels are written in turn, each in the four bytes that are its own.
+abbrev after_two : (l u v : List ℕ) → List ℕ
+after_two l u v = take 4 (u ++ drop 4 l) ++ (v ++ drop 4 (drop 4 (u ++ drop 4 l)))
+
+pub twelve_bytes : (l u v w : List ℕ) (r g b : Float) → u ≡ channel_bytes r → v ≡ channel_bytes g → w ≡ channel_bytes b →
+    take 8 (after_two l u v) ++ (w ++ drop (length (after_two l u v) - 8) (drop 8 (after_two l u v))) ≡
+    channel_bytes r ++ channel_bytes g ++ channel_bytes b
+twelve_bytes l u v w r g b e f h =
+    rw (e, f, h) (
+    ap (λ t. channel_bytes r ++ channel_bytes g ++ channel_bytes b ++ t) (drop_of_length-le (drop 4 (drop 4 l)) (omega arith))
+    )
 
 -- What is at least another number is a number.
 pub no_nan : (x r : Float) → T (le x r) → T (not (is_nan r))

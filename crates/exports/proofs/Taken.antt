@@ -9,7 +9,7 @@ use lib.IntN.{ℤ}
 use Rattle.integers.specs.Magnitude.{Within}
 use Rattle.decide.specs.Some.{some_of}
 use Rattle.decide.specs.Refusal.{Rule, Verdict, accepted, refused, first_that, numbers}
-use Rattle.decide.proofs.Refusal.{refused_most, first_append, accepted_append}
+use Rattle.decide.proofs.FirstThat.{refused_most, first_append, accepted_append}
 use Rattle.cubic.proofs.Fits.{read}
 use Rattle.drawing.specs.declared.Choice.{Choice}
 use Rattle.drawing.specs.Object.{Object, curve, patch}

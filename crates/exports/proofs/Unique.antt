@@ -4,7 +4,7 @@ use mathlib.Core.List.{List, ◌∷◌, [], ◌++◌}
 use Prim.Native.Nat.{ℕ}
 use lib.IntN.{ℤ}
 use Rattle.decide.specs.Refusal.{Rule, first_that}
-use Rattle.decide.proofs.Refusal.{by_verdict}
+use Rattle.decide.proofs.FirstThat.{by_verdict}
 use Rattle.channel.specs.declared.Rgb.{Rgb}
 use Rattle.swatch.specs.declared.Cell.{Cell}
 use Rattle.swatch.specs.declared.Swatch.{Swatch}

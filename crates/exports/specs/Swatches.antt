@@ -1,7 +1,9 @@
 -- Swatch calls from C: a kind and three numbers stand for a swatch; a cell is three bytes, and three channels twelve.
-use Rattle.std.specs.Prelude.{◌≡◌, Bool, cond, ◌||◌, List, [], ◌∷◌, ◌++◌, ℕ, ◌/◌, ◌%◌, eqb, ltb, ℤ, Float}
+use Rattle.std.specs.Prelude.{◌≡◌, Bool, cond, ◌||◌, List, [], ◌∷◌, ◌++◌, ℕ, ◌/◌, ◌%◌, eqb, ltb, ℤ, Float, Result, Ok, Err}
 use Rattle.std.specs.Float.{binary32}
 use Rattle.std.specs.Float.Ieee.{to_bits}
+use Rattle.decide.specs.declared.Refusal.{Refusal}
+use Rattle.decide.specs.declared.Refusal.TheVariants as why
 use Rattle.decide.specs.Refusal.{Rule, ◌when◌, first_that, accepted, refused}
 use Rattle.channel.specs.declared.Rgb.{Rgb}
 use Rattle.swatch.specs.declared.Cell.{Cell}
@@ -19,14 +21,18 @@ swatch_of kind a b c =
     cond (eqb kind 0) (Color (record { red = a; green = b; blue = c }))
     (cond (eqb kind 2) (Hue (record { hue = a; saturation = b; value = c })) (Grey a))
 
+-- A kind of swatch that does not exist.
+abbrev pub no_kind : (kind : ℕ) → Bool
+no_kind kind = ltb 2 kind
+
+-- The swatch of an existing kind, and else the refusal.
+abbrev pub swatch_at : (kind : ℕ) (a b c : Float) → Result Swatch Refusal
+swatch_at kind a b c = cond (no_kind kind) (Err why.Kind) (Ok (swatch_of kind a b c))
+
 -- The four bytes of a channel, the low byte first.
 abbrev pub channel_bytes : Float → List ℕ
 channel_bytes v =
     let b = to_bits binary32 v in b % 256 ∷ b / 256 % 256 ∷ b / 65536 % 256 ∷ b / 16777216 % 256 ∷ []
-
--- A kind of swatch that does not exist.
-abbrev pub no_kind : (kind : ℕ) → Bool
-no_kind kind = ltb 2 kind
 
 -- Swatch to cell: 53 and 52 come first, then the call's own numbers.
 abbrev pub cell_order : (S kind : ℕ) (w : Swatch) (cell : List ℕ) → List Rule

@@ -3,18 +3,19 @@ ghost use Rattle.flip.specs.Flip.{reversed};
 ghost use Rattle.exports.specs.Records.{FlipsBytes, FlipsPatchBytes};
 
 use crate::signed::refused;
+use decide::Refusal;
 
 #[unsafe(no_mangle)]
 pub extern "C" fn gidzkhalu_flip_curve(points: &[u8], flipped: &mut [u8]) -> i64
     ensures { FlipsBytes 12 reversed points.now flipped.old flipped.new result }
 {
-    if points.len() != 12 {
-        return refused(51);
-    }
+    let Ok(points) = <&[u8; 12]>::try_from(points) else {
+        return refused(Refusal::RecordLength);
+    };
     if flipped.len() != 12 {
-        return refused(52);
+        return refused(Refusal::OutLength);
     }
-    flip::reverse(points, flipped);
+    flipped.copy_from_slice(&flip::reverse(points));
     0
 }
 
@@ -28,15 +29,13 @@ pub extern "C" fn gidzkhalu_flip_patch(
     ensures { FlipsPatchBytes points.now n.old m.old n.new m.new
         flipped.old flipped.new result }
 {
-    if points.len() != 48 {
-        return refused(51);
-    }
+    let Ok(points) = <&[u8; 48]>::try_from(points) else {
+        return refused(Refusal::RecordLength);
+    };
     if flipped.len() != 48 {
-        return refused(52);
+        return refused(Refusal::OutLength);
     }
-    flip::exchange(points, flipped);
-    let along_t = *n;
-    *n = *m;
-    *m = along_t;
+    flipped.copy_from_slice(&flip::exchange(points));
+    std::mem::swap(n, m);
     0
 }

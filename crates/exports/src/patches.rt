@@ -1,39 +1,32 @@
 // Patches.
-ghost use Rattle.std.specs.Prelude.{◌≡◌, length};
 ghost use Rattle.drawing.specs.declared.Choice.TheVariants.{Over};
 ghost use Rattle.drawing.specs.Object.{patch};
 ghost use Rattle.drawing.specs.Drawing.{drawing_of};
-ghost use Rattle.patch.specs.Patch.{patch_of};
 ghost use Rattle.exports.specs.Records.{choice_of, ChecksBytes, DrawsBytes};
 
-use crate::signed::{choice_of, copy, of_drawing, of_verdict, refused};
+use crate::signed::{drawn, refused};
+use decide::Refusal;
 use drawing::Choice;
 use patch::Patch;
-
-// The record of forty-eight bytes.
-fn patch_of(points: &[u8], n: u32, m: u32, mark: u8, choice: Choice) -> Patch
-    requires { length points.now ≡ 48 }
-    ensures { patch_of result ≡ patch n m points.now mark choice }
-{
-    let mut forty_eight = [0u8; 48];
-    copy(points, &mut forty_eight);
-    Patch {
-        points: forty_eight,
-        n,
-        m,
-        mark,
-        choice,
-    }
-}
 
 #[unsafe(no_mangle)]
 pub extern "C" fn gidzkhalu_check_patch(side: u32, points: &[u8], n: u32, m: u32) -> i64
     ensures { ChecksBytes 48 side (patch n m points.now 0 Over) 0 result }
 {
-    if points.len() != 48 {
-        return refused(51);
+    let Ok(points) = <[u8; 48]>::try_from(points) else {
+        return refused(Refusal::RecordLength);
+    };
+    let patch = Patch {
+        points,
+        n,
+        m,
+        mark: 0,
+        choice: Choice::Over,
+    };
+    match patch::check_patch(side, patch) {
+        Ok(()) => 0,
+        Err(refusal) => refused(refusal),
     }
-    of_verdict(patch::check_patch(side, patch_of(points, n, m, 0, Choice::Over)))
 }
 
 #[unsafe(no_mangle)]
@@ -51,14 +44,18 @@ pub extern "C" fn gidzkhalu_draw_patch(
         (drawing_of side (patch n m points.now mark (choice_of choice)))
         grid.old grid.new new_cells.old new_cells.new result }
 {
-    if points.len() != 48 {
-        return refused(51);
-    }
-    if choice > 1 {
-        return refused(55);
-    }
-    of_drawing(
-        patch::draw_patch(side, patch_of(points, n, m, mark, choice_of(choice)), grid),
-        new_cells,
-    )
+    let Ok(points) = <[u8; 48]>::try_from(points) else {
+        return refused(Refusal::RecordLength);
+    };
+    let Ok(choice) = Choice::try_from(choice) else {
+        return refused(Refusal::Choice);
+    };
+    let patch = Patch {
+        points,
+        n,
+        m,
+        mark,
+        choice,
+    };
+    drawn(patch::draw_patch(side, patch, grid), new_cells)
 }

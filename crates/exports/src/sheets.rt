@@ -1,8 +1,7 @@
 // Sheets.
 ghost use Rattle.exports.specs.Sheet.{SheetBytes};
 
-use crate::signed::{accepted, refused};
-use sheet_cube::Answer;
+use crate::signed::refused;
 
 #[unsafe(no_mangle)]
 pub extern "C" fn gidzkhalu_draw_sheet(
@@ -15,14 +14,14 @@ pub extern "C" fn gidzkhalu_draw_sheet(
         new_cells.old new_cells.new result }
 {
     match sheet_cube::draw_sheet(input, buffer) {
-        Answer::Drawn(sheet) => {
+        Ok(sheet) => {
             *detail = sheet.side;
             *new_cells = sheet.new_cells;
-            accepted(sheet.curves)
+            i64::from(sheet.curves)
         }
-        Answer::Refused(refusal) => {
-            *detail = refusal.line;
-            refused(refusal.number)
+        Err(at) => {
+            *detail = at.line;
+            refused(at.refusal)
         }
     }
 }

@@ -1,40 +1,33 @@
 // Solids.
-ghost use Rattle.std.specs.Prelude.{◌≡◌, length};
 ghost use Rattle.drawing.specs.declared.Choice.TheVariants.{Over};
 ghost use Rattle.drawing.specs.Object.{solid};
 ghost use Rattle.drawing.specs.Drawing.{drawing_of};
-ghost use Rattle.solid.specs.Solid.{solid_of};
 ghost use Rattle.exports.specs.Records.{choice_of, ChecksBytes, DrawsBytes};
 
-use crate::signed::{choice_of, copy, of_drawing, of_verdict, refused};
+use crate::signed::{drawn, refused};
+use decide::Refusal;
 use drawing::Choice;
 use solid::Solid;
-
-// The record of 192 bytes.
-fn solid_of(points: &[u8], n: u32, m: u32, l: u32, mark: u8, choice: Choice) -> Solid
-    requires { length points.now ≡ 192 }
-    ensures { solid_of result ≡ solid n m l points.now mark choice }
-{
-    let mut coordinates = [0u8; 192];
-    copy(points, &mut coordinates);
-    Solid {
-        points: coordinates,
-        n,
-        m,
-        l,
-        mark,
-        choice,
-    }
-}
 
 #[unsafe(no_mangle)]
 pub extern "C" fn gidzkhalu_check_solid(side: u32, points: &[u8], n: u32, m: u32, l: u32) -> i64
     ensures { ChecksBytes 192 side (solid n m l points.now 0 Over) 0 result }
 {
-    if points.len() != 192 {
-        return refused(51);
+    let Ok(points) = <[u8; 192]>::try_from(points) else {
+        return refused(Refusal::RecordLength);
+    };
+    let solid = Solid {
+        points,
+        n,
+        m,
+        l,
+        mark: 0,
+        choice: Choice::Over,
+    };
+    match solid::check_solid(side, solid) {
+        Ok(()) => 0,
+        Err(refusal) => refused(refusal),
     }
-    of_verdict(solid::check_solid(side, solid_of(points, n, m, l, 0, Choice::Over)))
 }
 
 #[unsafe(no_mangle)]
@@ -53,18 +46,19 @@ pub extern "C" fn gidzkhalu_draw_solid(
         (drawing_of side (solid n m l points.now mark (choice_of choice)))
         grid.old grid.new new_cells.old new_cells.new result }
 {
-    if points.len() != 192 {
-        return refused(51);
-    }
-    if choice > 1 {
-        return refused(55);
-    }
-    of_drawing(
-        solid::draw_solid(
-            side,
-            solid_of(points, n, m, l, mark, choice_of(choice)),
-            grid,
-        ),
-        new_cells,
-    )
+    let Ok(points) = <[u8; 192]>::try_from(points) else {
+        return refused(Refusal::RecordLength);
+    };
+    let Ok(choice) = Choice::try_from(choice) else {
+        return refused(Refusal::Choice);
+    };
+    let solid = Solid {
+        points,
+        n,
+        m,
+        l,
+        mark,
+        choice,
+    };
+    drawn(solid::draw_solid(side, solid, grid), new_cells)
 }

@@ -6,7 +6,8 @@ ghost use Rattle.exports.specs.Records.{choice_of, DrawsBytes};
 use crate::curves::gidzkhalu_draw_curve;
 use crate::patches::gidzkhalu_draw_patch;
 use crate::signed::refused;
-use decide::Verdict;
+use decide::Refusal;
+use drawing::Choice;
 use strip::{judge_curve, judge_patch};
 
 #[unsafe(no_mangle)]
@@ -24,17 +25,15 @@ pub extern "C" fn gidzkhalu_draw_strip_curve(
         grid.old grid.new new_cells.old new_cells.new result }
 {
     match judge_curve(side, steps, mark, grid.len()) {
-        Verdict::Accepted => gidzkhalu_draw_curve(
-            side, points, steps, mark, choice, grid, new_cells,
-        ),
-        Verdict::Refused(k) => {
+        Ok(()) => gidzkhalu_draw_curve(side, points, steps, mark, choice, grid, new_cells),
+        Err(refusal) => {
             if points.len() != 12 {
-                return refused(51);
+                return refused(Refusal::RecordLength);
             }
-            if choice > 1 {
-                return refused(55);
-            }
-            refused(k)
+            let Ok(_) = Choice::try_from(choice) else {
+                return refused(Refusal::Choice);
+            };
+            refused(refusal)
         }
     }
 }
@@ -55,17 +54,15 @@ pub extern "C" fn gidzkhalu_draw_strip_patch(
         grid.old grid.new new_cells.old new_cells.new result }
 {
     match judge_patch(side, n, m, mark, grid.len()) {
-        Verdict::Accepted => gidzkhalu_draw_patch(
-            side, points, n, m, mark, choice, grid, new_cells,
-        ),
-        Verdict::Refused(k) => {
+        Ok(()) => gidzkhalu_draw_patch(side, points, n, m, mark, choice, grid, new_cells),
+        Err(refusal) => {
             if points.len() != 48 {
-                return refused(51);
+                return refused(Refusal::RecordLength);
             }
-            if choice > 1 {
-                return refused(55);
-            }
-            refused(k)
+            let Ok(_) = Choice::try_from(choice) else {
+                return refused(Refusal::Choice);
+            };
+            refused(refusal)
         }
     }
 }

@@ -4,8 +4,12 @@ use mathlib.Core.List.{List, [], ◌∷◌}
 use Prim.Native.Nat.{ℕ, ◌+◌, ◌-◌, ◌*◌}
 use native.Mathlib.Omega.{arith}
 use lib.ListN.{length, get_or}
+use Rattle.std.specs.Prelude.{Result, Ok, Err}
+use Rattle.decide.specs.declared.Refusal.{Refusal}
 use Rattle.decide.specs.Refusal.{Verdict, accepted, refused, outcome}
-use Rattle.decide.proofs.Refusal.{not_both, answer_given, answer_refused}
+use Rattle.decide.specs.Verdict.{number_of, outcome_of}
+use Rattle.decide.proofs.Unique.{number_unique}
+use Rattle.decide.proofs.FirstThat.{not_both, answer_given, answer_refused}
 use Rattle.cube.specs.Cube.{Axis, x_axis, y_axis, z_axis}
 use Rattle.drawing.specs.declared.Choice.{Choice}
 use Rattle.drawing.specs.Object.{Object, curve, offset, cell_of}
@@ -13,38 +17,36 @@ use Rattle.drawing.specs.Refusals.{list_verdict, sample_count}
 use Rattle.drawing.specs.Drawing.{listing_of, listed}
 use Rattle.drawing.proofs.Accepted.{list_accepted}
 use Rattle.drawing.proofs.Listed.{listed_refused, length_listed, listed_rest, listed_curve}
-use Rattle.scan.specs.declared.answer.ListAnswer.{ListAnswer}
-use Rattle.scan.specs.declared.answer.ListAnswer.TheVariants.{Accepted, Refused}
-use Rattle.scan.specs.Answer.{list_answer_of, Lists}
+use Rattle.scan.specs.Answer.{Lists}
 use Rattle.flip.specs.Flip.{reversed}
 use Rattle.flip.specs.Listings.{SameCell, Reversed, Agree, KeepsRest}
 use Rattle.flip.proofs.Samples.{same_list_verdict}
 use Rattle.flip.proofs.Curves.{cell_reversed, curve_reordered}
 
 -- What two answers to one verdict have in common.
-by_answers : (v : Verdict) (n : ℕ) (list back : List ℕ) (r s : ListAnswer) → list_answer_of r ≡ outcome v n →
-    list_answer_of s ≡ outcome v n → (v ≡ accepted → Reversed n list back) → Agree list back r s
-by_answers v n list back (Accepted a) (Accepted b) e f cells =
+by_answers : (v : Verdict) (n : ℕ) (list back : List ℕ) (r s : Result ℕ Refusal) → outcome_of r ≡ outcome v n →
+    outcome_of s ≡ outcome v n → (v ≡ accepted → Reversed n list back) → Agree list back r s
+by_answers v n list back (Ok a) (Ok b) e f cells =
     let g = answer_given v n e in
     let h = answer_given v n f in
     (g.1 ∙ sym h.1, subst (λ k. Reversed k list back) (sym g.1) (cells g.0))
-by_answers v n list back (Accepted a) (Refused l) e f cells = not_both (sym (answer_refused v n f) ∙ (answer_given v n e).0)
-by_answers v n list back (Refused k) (Accepted b) e f cells = not_both (sym (answer_refused v n e) ∙ (answer_given v n f).0)
-by_answers v n list back (Refused k) (Refused l) e f cells = same (sym (answer_refused v n e) ∙ answer_refused v n f)
+by_answers v n list back (Ok a) (Err d) e f cells = not_both (sym (answer_refused v n f) ∙ (answer_given v n e).0)
+by_answers v n list back (Err c) (Ok b) e f cells = not_both (sym (answer_refused v n e) ∙ (answer_given v n f).0)
+by_answers v n list back (Err c) (Err d) e f cells = number_unique c d (same (sym (answer_refused v n e) ∙ answer_refused v n f))
   where
-    same : refused k ≡ refused l → k ≡ l
+    same : refused (number_of c) ≡ refused (number_of d) → number_of c ≡ number_of d
     same q = cc
 
 -- Any listing keeps the rest of its list.
-pub keeps_rest : (S : ℕ) (o : Object) {list listNow : List ℕ} {r : ListAnswer} → Lists (listing_of S o) list listNow r → KeepsRest list listNow r
+pub keeps_rest : (S : ℕ) (o : Object) {list listNow : List ℕ} {r : Result ℕ Refusal} → Lists (listing_of S o) list listNow r → KeepsRest list listNow r
 keeps_rest S o {list} {listNow} {r} c = by_answer r c.answer
   where
-    by_answer : (r : ListAnswer) → list_answer_of r ≡ outcome (list_verdict S (length list) o) (sample_count o.counts) →
+    by_answer : (r : Result ℕ Refusal) → outcome_of r ≡ outcome (list_verdict S (length list) o) (sample_count o.counts) →
         KeepsRest list listNow r
-    by_answer (Accepted n) e =
+    by_answer (Ok n) e =
         let so_many = (answer_given (list_verdict S (length list) o) (sample_count o.counts) e).1 in
         rw c.leaves (length_listed S o list, λ q b. listed_rest S o list q (rw so_many at b))
-    by_answer (Refused k) e =
+    by_answer (Err d) e =
         c.leaves ∙ listed_refused (listing_of S o) list (answer_refused (list_verdict S (length list) o) (sample_count o.counts) e)
 
 module _ (S n : ℕ) (points : List ℕ) (mark : ℕ) (choice : Choice) (h : length points ≡ 12) where
@@ -84,7 +86,7 @@ module _ (S n : ℕ) (points : List ℕ) (mark : ℕ) (choice : Choice) (h : len
       cells = λ i k s. same_cell i k (omega arith);
     }
 
-  pub agree : {list back listNow backNow : List ℕ} {r s : ListAnswer} → length list ≡ length back →
+  pub agree : {list back listNow backNow : List ℕ} {r s : Result ℕ Refusal} → length list ≡ length back →
       Lists (listing_of S o) list listNow r → Lists (listing_of S flip) back backNow s → Agree listNow backNow r s
   agree {list} {back} {r = r} {s} e c d =
       rw (c.leaves, d.leaves)

@@ -13,15 +13,9 @@ use patch::Patch;
 pub fn flip_curve(curve: Curve) -> Curve
     ensures { result ≡ flipped_curve curve }
 {
-    let from = curve.points;
-    let mut points = [0u8; 12];
-    reverse(&from, &mut points);
-    let choice = curve.choice;
     Curve {
-        mark: curve.mark,
-        choice,
-        steps: curve.steps,
-        points,
+        points: reverse(&curve.points),
+        ..curve
     }
 }
 
@@ -29,52 +23,43 @@ pub fn flip_curve(curve: Curve) -> Curve
 pub fn flip_patch(patch: Patch) -> Patch
     ensures { result ≡ flipped_patch patch }
 {
-    let from = patch.points;
-    let mut points = [0u8; 48];
-    exchange(&from, &mut points);
-    let choice = patch.choice;
     Patch {
-        points,
+        points: exchange(&patch.points),
         n: patch.m,
         m: patch.n,
-        mark: patch.mark,
-        choice,
+        ..patch
     }
 }
 
-// Writes a curve's four points in reverse order.
-pub fn reverse(from: &[u8], to: &mut [u8])
-    requires { (length from.now ≡ 12) × (length to.old ≡ 12) }
-    ensures { to.new ≡ reversed from.now }
+// A curve's four points in reverse order.
+pub fn reverse(points: &[u8; 12]) -> [u8; 12]
+    ensures { result ≡ reversed points.now }
 {
-    let numbers = [3u8, 2, 1, 0];
-    put_points(from, &numbers, to);
+    points_at(points, &[3, 2, 1, 0])
 }
 
-// Writes a patch's sixteen points with i and j exchanged.
-pub fn exchange(from: &[u8], to: &mut [u8])
-    requires { (length from.now ≡ 48) × (length to.old ≡ 48) }
-    ensures { to.new ≡ exchanged from.now }
+// A patch's sixteen points with i and j exchanged.
+pub fn exchange(points: &[u8; 48]) -> [u8; 48]
+    ensures { result ≡ exchanged points.now }
 {
-    let numbers = [0u8, 4, 8, 12, 1, 5, 9, 13, 2, 6, 10, 14, 3, 7, 11, 15];
-    put_points(from, &numbers, to);
+    points_at(
+        points,
+        &[0, 4, 8, 12, 1, 5, 9, 13, 2, 6, 10, 14, 3, 7, 11, 15],
+    )
 }
 
-// Writes the points with these numbers, in turn, x y z of each.
-fn put_points(from: &[u8], numbers: &[u8], to: &mut [u8])
-    requires to_len { length to.old ≡ 3 * length numbers.now }
-    requires numbers_value { some_of (no_point from.now) numbers.now ≡ false }
-    ensures { to.new ≡ points_at from.now numbers.now }
+// The points with these numbers, in turn, x y z of each. Written by places: of what goes through `chunks_exact_mut` a proof knows
+// the length alone.
+fn points_at<const N: usize>(points: &[u8], numbers: &[u8]) -> [u8; N]
+    requires size { N ≡ 3 * length numbers.now }
+    requires numbers_value { some_of (no_point points.now) numbers.now ≡ false }
+    ensures { result ≡ points_at points.now numbers.now }
 {
-    let mut k = 0;
-    while k < numbers.len() {
-        let number = numbers[k] as usize;
-        let x = from[3 * number];
-        let y = from[3 * number + 1];
-        let z = from[3 * number + 2];
-        to[3 * k] = x;
-        to[3 * k + 1] = y;
-        to[3 * k + 2] = z;
-        k += 1;
+    let mut out = [0; N];
+    let to = &mut out[..];
+    for (k, &number) in numbers.iter().enumerate() {
+        let at = 3 * usize::from(number);
+        to[3 * k..3 * k + 3].copy_from_slice(&points[at..at + 3]);
     }
+    out
 }

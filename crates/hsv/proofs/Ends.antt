@@ -12,11 +12,12 @@ use lib.Ieee.Scale.{round_same}
 use lib.Ieee.Positive.{num, den, den_pos}
 use Rattle.channel.specs.Channel.{in_range, zero32, one32}
 use Rattle.channel.specs.HalfWay.{minus_zero32}
+use Rattle.channel.specs.Rgb.{rgb}
 use Rattle.channel.proofs.Order.{NonNegative, size_zero, range_nonneg}
 use Rattle.channel.proofs.Held.{channel_held, held_value}
 use Rattle.hsv.specs.declared.Hsv.{Hsv}
 use Rattle.hsv.specs.Hue.{six32, hue_in_range, HsvInRange}
-use Rattle.hsv.specs.Channels.{whole_part, fractional_part, p_of, q_of, rgb, row, hsv_channels}
+use Rattle.hsv.specs.Channels.{whole_part, fractional_part, p_of, q_of, row, hsv_channels}
 use Rattle.hsv.proofs.Rounds.{
   Rounds,
   round_one,

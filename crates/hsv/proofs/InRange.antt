@@ -7,7 +7,7 @@ use lib.Dec.{T}
 use lib.Ieee.{Float, nan, inf, fin, binary32, sub, mul}
 use Rattle.decide.specs.Refusal.{first_that, accepted}
 use Rattle.decide.proofs.Truth.{true_of}
-use Rattle.decide.proofs.Refusal.{accepted_none, accepted_append_three}
+use Rattle.decide.proofs.FirstThat.{accepted_none, accepted_append_three}
 use Rattle.channel.specs.Channel.{in_range, infinite_or_nan, one32, channel_refusals}
 use Rattle.channel.specs.Rgb.{AllInRange}
 use Rattle.channel.proofs.Range.{channel_in_range}

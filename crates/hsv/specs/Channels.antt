@@ -5,6 +5,7 @@ use Rattle.std.specs.Float.Ieee.{sub, mul, of_int}
 use Rattle.std.specs.Float.Ieee.Positive.{num, den}
 use Rattle.channel.specs.declared.Rgb.{Rgb}
 use Rattle.channel.specs.Channel.{one32}
+use Rattle.channel.specs.Rgb.{rgb}
 use Rattle.hsv.specs.declared.Hsv.{Hsv}
 
 -- k, the whole part of h. For an h in range, num h / den h is exactly the number that the f32 denotes. Elsewhere it need
@@ -27,10 +28,6 @@ q_of v s f = mul binary32 v (sub binary32 one32 (mul binary32 s f))
 -- r = v × (1 - s × (1 - f)).
 abbrev pub r_of : (v s f : Float) → Float
 r_of v s f = mul binary32 v (sub binary32 one32 (mul binary32 s (sub binary32 one32 f)))
-
--- Red, green and blue.
-abbrev pub rgb : (red green blue : Float) → Rgb
-rgb red green blue = record { red = red; green = green; blue = blue }
 
 -- Red, green, blue for k from 0 to 5.
 abbrev pub rows : (v p q r : Float) → List Rgb

@@ -24,12 +24,10 @@ use Rattle.cubic.proofs.Fits.{read}
 use Rattle.cubic.proofs.Levels.{patch_within}
 use Rattle.surface.specs.Surface.{surface_of, StepsSearchable, Bounded}
 use Rattle.surface.proofs.Long.{surface_finds, steps_searchable}
-use Rattle.scan.specs.declared.walker.Strides.{Strides}
-use Rattle.scan.specs.Walker.{stride_of, grid_strides, place_of}
+use Rattle.scan.specs.Walker.{Strides, stride_of, grid_strides, place_of}
 use Rattle.scan.proofs.Axes.{offset_small}
 use Rattle.scan.proofs.Natural.{natural_held, cube_grows}
-use Rattle.rows.specs.declared.Lines.{Lines}
-use Rattle.rows.specs.Lines.{line_of, start_line, rows_of_walkers, RowsOnGrid}
+use Rattle.rows.specs.Lines.{Lines, line_of, start_line, rows_of_walkers, RowsOnGrid}
 use Rattle.rows.specs.Face.{doubled_face}
 use Rattle.rows.proofs.Face.{face_bytes}
 use Rattle.rows.proofs.Walked.{Rows, OnRow, rows_start, rows_on_grid, rows_places}

@@ -5,9 +5,8 @@ use Rattle.cubic.specs.Blend as blend
 use Rattle.cubic.specs.Blend.{twice}
 use Rattle.surface.specs.Surface.{surface_of, long_steps}
 use Rattle.scan.specs.Column.{Below64}
-use Rattle.scan.specs.declared.walker.Strides.{Strides}
-use Rattle.rows.specs.declared.Lines.{Lines}
-use Rattle.rows.specs.Lines.{start_line}
+use Rattle.scan.specs.Walker.{Strides}
+use Rattle.rows.specs.Lines.{Lines, start_line}
 use Rattle.patch.specs.declared.Patch.{Patch}
 use Rattle.patch.specs.Patch.{patch_of}
 

@@ -4,20 +4,20 @@
 
 mod samples;
 mod start;
-mod steps;
 
-ghost use Rattle.std.specs.Prelude.{◌≡◌, false};
-ghost use Rattle.decide.specs.Some.{some_of};
-ghost use Rattle.decide.specs.Refusal.{first_that};
+ghost use Rattle.std.specs.Prelude.{◌≡◌};
 ghost use Rattle.decide.specs.Verdict.{verdict_of};
-ghost use Rattle.drawing.specs.Refusals.{count_out, order, check_verdict};
+ghost use Rattle.drawing.specs.Refusals.{check_verdict};
 ghost use Rattle.drawing.specs.Drawing.{drawing_of};
 ghost use Rattle.scan.specs.Answer.{Draws};
 ghost use Rattle.patch.specs.Patch.{patch_of};
 
-use decide::Verdict;
+use decide::Refusal;
 use drawing::Choice;
-use scan::answer::{DrawAnswer, Drawn};
+use rows::record;
+use rows::record::Record;
+use scan::answer::Drawn;
+use scan::refusal::is_count_out;
 
 // A patch record: x, y, z of points 0 to 15, the step counts n along t and m along u, the mark and the choice, over or
 // under.
@@ -31,48 +31,42 @@ pub struct Patch {
 }
 
 // Whether the patch can be drawn in a cube of the given side. Refused: 11, 13, 14, 15.
-pub fn check_patch(side: u32, patch: Patch) -> Verdict
+pub fn check_patch(side: u32, patch: Patch) -> Result<(), Refusal>
     ensures { verdict_of result ≡ check_verdict side (patch_of patch) }
 {
-    verdict(side, patch, false, false)
+    record::check(side, &patch)
 }
 
 // Writes the mark, over or under, in each sample's cell of the grid. Refused: 11, 21, 12, 13, 14, 15.
-pub fn draw_patch(side: u32, patch: Patch, grid: &mut [u8]) -> DrawAnswer
+pub fn draw_patch(side: u32, patch: Patch, grid: &mut [u8]) -> Result<Drawn, Refusal>
     ensures { Draws (drawing_of side (patch_of patch)) grid.old grid.new result }
 {
-    let cube = scan::refusal::is_volume(side, grid.len());
-    match verdict(side, patch, !cube, patch.mark == 0) {
-        Verdict::Refused(k) => DrawAnswer::Refused(k),
-        Verdict::Accepted => {
-            let new_cells = samples::mark_samples(side, patch, grid);
-            let answer = (patch.n + 1) * (patch.m + 1);
-            DrawAnswer::Accepted(Drawn { answer, new_cells })
-        }
-    }
+    record::draw(side, &patch, grid)
 }
 
-// The first number that applies, with what grid and mark have to say.
-fn verdict(side: u32, patch: Patch, grid_wrong: bool, mark_wrong: bool) -> Verdict
-    ensures { verdict_of result ≡ first_that (order side (patch_of patch) grid_wrong mark_wrong false) }
-{
-    let points = patch.points;
-    let count_out = is_count_out(patch);
-    match scan::refusal::before_steps(side, &points, grid_wrong, mark_wrong, count_out, false) {
-        Verdict::Refused(k) => Verdict::Refused(k),
-        Verdict::Accepted => {
-            if steps::step_too_long(patch) {
-                Verdict::Refused(15)
-            } else {
-                Verdict::Accepted
-            }
-        }
-    }
-}
+impl Record for Patch {
+    ghost object = { patch_of };
 
-// A step count is outside its range.
-fn is_count_out(patch: Patch) -> bool
-    ensures { result ≡ some_of (count_out 256) (patch_of patch).counts }
-{
-    scan::refusal::is_count_out(256, patch.n) || scan::refusal::is_count_out(256, patch.m)
+    fn points(&self) -> &[u8] {
+        &self.points
+    }
+
+    fn mark(&self) -> u8 {
+        self.mark
+    }
+
+    fn is_count_out(&self) -> bool {
+        is_count_out(256, self.n) || is_count_out(256, self.m)
+    }
+
+    fn step_too_long_along(&self, a: usize) -> bool {
+        let scale = start::scale(*self);
+        surface::step_too_long(start::start_surface(*self, a), scale, self.n, self.m)
+    }
+
+    fn mark_samples(&self, side: u32, grid: &mut [u8]) -> Drawn {
+        let new_cells = samples::mark_samples(side, *self, grid);
+        let answer = (self.n + 1) * (self.m + 1);
+        Drawn { answer, new_cells }
+    }
 }

@@ -13,7 +13,9 @@ ghost use Rattle.patch.specs.Machine.{InLimits, doubled_along, start_lines};
 use crate::Patch;
 use crate::start::start_surface;
 use rows::{Line, Lines};
+use scan::mark::Ink;
 use scan::walker::Strides;
+use scan::xyz::AXES;
 
 // Row 0 on one axis: the cell of point 0.
 fn start_line(patch: Patch, a: usize, stride: i64) -> Line
@@ -22,12 +24,7 @@ fn start_line(patch: Patch, a: usize, stride: i64) -> Line
     requires small_stride { SmallStride stride }
     ensures { result ≡ start_line stride (pos (get_or patch.points a 0)) (surface_of (doubled_along patch a) 0) }
 {
-    let p = patch.points;
-    Line::start(
-        stride,
-        scan::number::coordinate(p[a]),
-        start_surface(patch, a),
-    )
+    Line::start(stride, i64::from(patch.points[a]), start_surface(patch, a))
 }
 
 // Row 0.
@@ -36,11 +33,7 @@ fn start_lines(patch: Patch, h: Strides) -> Lines
     requires small_strides { SmallStrides h }
     ensures { result ≡ start_lines patch h }
 {
-    Lines {
-        x: start_line(patch, 0, h.x),
-        y: start_line(patch, 1, h.y),
-        z: start_line(patch, 2, h.z),
-    }
+    AXES.with(h, |a, stride| start_line(patch, a, stride))
 }
 
 // Marks the cells of an accepted patch's samples, over or under, row by row. Answers how many of them were unmarked before.
@@ -52,7 +45,9 @@ pub(crate) fn mark_samples(side: u32, patch: Patch, grid: &mut [u8]) -> u32
     let h = scan::number::grid_strides(side);
     let scale = crate::start::scale(patch);
     let lines = start_lines(patch, h);
-    let mark = patch.mark;
-    let choice = patch.choice;
-    rows::mark_rows(lines, patch.n, patch.m, scale, h, mark, choice, grid)
+    let ink = Ink {
+        mark: patch.mark,
+        choice: patch.choice,
+    };
+    rows::mark_rows(ink, lines, patch.n, patch.m, scale, h, grid)
 }

@@ -22,6 +22,5 @@ pub(crate) fn start_surface(patch: Patch, a: usize) -> Surface
     requires a_bound { a < 3 }
     ensures { result ≡ surface_of (doubled_along patch a) 0 }
 {
-    let p = patch.points;
-    rows::start_surface(&p, patch.n, patch.m, 12, 3, a)
+    rows::start_surface(&patch.points, patch.n, patch.m, 12, 3, a)
 }

@@ -1,8 +1,7 @@
 -- What the machine holds of the next sample's remainder.
 use Rattle.std.proofs.Common.{◌≡◌, ◌+◌, ◌^◌, lit<}
 use Rattle.integers.proofs.Magnitude.{within_add}
-use Rattle.cubic.specs.declared.differences.Cubic.{Cubic}
-use Rattle.cubic.specs.Differences.{next_of}
+use Rattle.cubic.specs.Differences.{Cubic, next_of}
 use Rattle.cubic.specs.Room.{Room}
 use Rattle.cubic.proofs.Fits.{Holds, read, held}
 

@@ -4,8 +4,7 @@ use lib.Seq.{sets, sets-eq, length-sets}
 use Rattle.cube.specs.Cube.{Axis, x_axis, y_axis, z_axis, Cell, Inside}
 use Rattle.drawing.specs.Drawing.{bytes}
 use Rattle.drawing.proofs.Listed.{length_bytes}
-use Rattle.scan.specs.declared.walker.Walker.{Walker}
-use Rattle.scan.specs.Walker.{ByteCell, cell_of_walker, coordinates}
+use Rattle.scan.specs.Walker.{Walker, ByteCell, cell_of_walker, coordinates}
 use Rattle.scan.proofs.Written.{written_after}
 use Rattle.path.specs.Path.{moved, move}
 use Rattle.path.proofs.Paths.{length_move}

@@ -11,8 +11,7 @@ use Rattle.integers.proofs.Difference.{zval}
 use Rattle.cubic.specs.declared.axis.Axis as machine
 use Rattle.cubic.specs.Differences.{next_of}
 use Rattle.cubic.specs.Axis.{with_value, settle_of, step_of}
-use Rattle.scan.specs.declared.walker.Walker.{Walker}
-use Rattle.scan.specs.Walker.{axis_of, HasPlace, place_of, ByteCell, cell_of_walker}
+use Rattle.scan.specs.Walker.{Walker, axis_of, HasPlace, place_of, ByteCell, cell_of_walker}
 use Rattle.scan.proofs.Samples.{grid_stride, grid_stride_small}
 use Rattle.path.specs.Path.{moved}
 use Rattle.path.specs.Step.{moves_next}

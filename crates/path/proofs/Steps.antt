@@ -8,9 +8,7 @@ use Rattle.cubic.specs.declared.axis.Axis as machine
 use Rattle.cubic.specs.Axis.{step_of}
 use Rattle.cubic.specs.Room.{Steps}
 use Rattle.cubic.proofs.Fits.{read}
-use Rattle.scan.specs.declared.walker.Strides.{Strides}
-use Rattle.scan.specs.declared.walker.Walker.{Walker}
-use Rattle.scan.specs.Walker.{axis_of, stride_of, grid_strides, list_strides, SmallStrides, step_all}
+use Rattle.scan.specs.Walker.{Strides, Walker, axis_of, stride_of, grid_strides, list_strides, SmallStrides, step_all}
 use Rattle.scan.proofs.Natural.{stride_read}
 use Rattle.scan.proofs.Samples.{Walk, At, along, at_next, at_steps, position, grid_stride}
 use Rattle.scan.proofs.Samples.{grid_stride_is, grid_stride_small, grid_small, list_stride_is, list_small}

@@ -29,12 +29,10 @@ fn count_moves(side: u32, curve: Curve, a: usize) -> u32
     let scale = scan::number::cubed(curve.steps);
     let mut axis = curve::samples::start_axis(curve, a, 1);
     let mut moves = 0;
-    let mut i = 0;
-    while i < curve.steps {
+    for _ in 0..curve.steps {
         let moved = step::moves(axis, scale);
         axis = step::advance(axis, moved, scale, 1);
-        moves += moved as u32;
-        i += 1;
+        moves += u32::from(moved);
     }
     moves
 }
@@ -49,24 +47,19 @@ pub(crate) fn list_cells(side: u32, curve: Curve, list: &mut [u8]) -> u32
 {
     let h = Strides { x: 1, y: 1, z: 1 };
     let scale = scan::number::cubed(curve.steps);
-    let start = curve::samples::start_walker(curve, h);
-    scan::list::put_cell(list, 0, start);
+    let mut w = curve::samples::start_walker(curve, h);
+    scan::list::put_cell(list, 0, w);
     let mut cells = 1;
-    let mut x = start.x;
-    let mut y = start.y;
-    let mut z = start.z;
-    let mut i = 0;
-    while i < curve.steps {
-        let x_moves = step::moves(x, scale);
-        x = step::advance(x, x_moves, scale, h.x);
-        cells = list_moved(cells, x_moves, Walker { x, y, z }, list);
-        let y_moves = step::moves(y, scale);
-        y = step::advance(y, y_moves, scale, h.y);
-        cells = list_moved(cells, y_moves, Walker { x, y, z }, list);
-        let z_moves = step::moves(z, scale);
-        z = step::advance(z, z_moves, scale, h.z);
-        cells = list_moved(cells, z_moves, Walker { x, y, z }, list);
-        i += 1;
+    for _ in 0..curve.steps {
+        let x_moves = step::moves(w.x, scale);
+        w.x = step::advance(w.x, x_moves, scale, h.x);
+        cells = list_moved(cells, x_moves, w, list);
+        let y_moves = step::moves(w.y, scale);
+        w.y = step::advance(w.y, y_moves, scale, h.y);
+        cells = list_moved(cells, y_moves, w, list);
+        let z_moves = step::moves(w.z, scale);
+        w.z = step::advance(w.z, z_moves, scale, h.z);
+        cells = list_moved(cells, z_moves, w, list);
     }
     cells
 }

@@ -13,6 +13,7 @@ use crate::step;
 use curve::Curve;
 use drawing::Choice;
 use scan::answer::Drawn;
+use scan::mark::Ink;
 use scan::walker::Walker;
 
 // Marks the cells of an accepted curve's path, over or under. Answers their number, and how many of them were unmarked before.
@@ -25,50 +26,41 @@ pub(crate) fn mark_cells(side: u32, curve: Curve, choice: Choice, grid: &mut [u8
 {
     let h = scan::number::grid_strides(side);
     let scale = scan::number::cubed(curve.steps);
-    let mark = curve.mark;
-    let start = curve::samples::start_walker(curve, h);
-    let first = scan::mark::mark_cell(grid, start.place(), mark, choice) as u32;
+    let ink = Ink {
+        mark: curve.mark,
+        choice,
+    };
+    let mut w = curve::samples::start_walker(curve, h);
+    let first = u32::from(ink.mark_cell(grid, w.place()));
     let mut drawn = Drawn {
         answer: 1,
         new_cells: first,
     };
-    let mut x = start.x;
-    let mut y = start.y;
-    let mut z = start.z;
-    let mut i = 0;
-    while i < curve.steps {
-        let x_moves = step::moves(x, scale);
-        x = step::advance(x, x_moves, scale, h.x);
-        drawn = mark_moved(drawn, x_moves, Walker { x, y, z }, mark, choice, grid);
-        let y_moves = step::moves(y, scale);
-        y = step::advance(y, y_moves, scale, h.y);
-        drawn = mark_moved(drawn, y_moves, Walker { x, y, z }, mark, choice, grid);
-        let z_moves = step::moves(z, scale);
-        z = step::advance(z, z_moves, scale, h.z);
-        drawn = mark_moved(drawn, z_moves, Walker { x, y, z }, mark, choice, grid);
-        i += 1;
+    for _ in 0..curve.steps {
+        let x_moves = step::moves(w.x, scale);
+        w.x = step::advance(w.x, x_moves, scale, h.x);
+        drawn = mark_moved(drawn, x_moves, w, ink, grid);
+        let y_moves = step::moves(w.y, scale);
+        w.y = step::advance(w.y, y_moves, scale, h.y);
+        drawn = mark_moved(drawn, y_moves, w, ink, grid);
+        let z_moves = step::moves(w.z, scale);
+        w.z = step::advance(w.z, z_moves, scale, h.z);
+        drawn = mark_moved(drawn, z_moves, w, ink, grid);
     }
     drawn
 }
 
 // Where an axis has moved, one cell more: the walker's, which gets the mark.
-fn mark_moved(
-    drawn: Drawn,
-    moved: bool,
-    w: Walker,
-    mark: u8,
-    choice: Choice,
-    grid: &mut [u8],
-) -> Drawn
+fn mark_moved(drawn: Drawn, moved: bool, w: Walker, ink: Ink, grid: &mut [u8]) -> Drawn
     requires has_place { HasPlace w }
     requires w_in_bounds { place_of w < length grid.old }
-    requires le_mark { (1 ≤ mark) × (drawn.answer ≤ 2000) × (drawn.new_cells ≤ 300000) }
+    requires le_mark { (1 ≤ ink.mark) × (drawn.answer ≤ 2000) × (drawn.new_cells ≤ 300000) }
     ensures answer_value { result.answer ≡ drawn.answer + (if moved then 1 else 0) }
     ensures grid_after { result.new_cells + unmarked_cells grid.new ≡ drawn.new_cells + unmarked_cells grid.old }
-    ensures grid_after_2 { grid.new ≡ marked choice mark (if moved then place_of w ∷ [] else []) grid.old }
+    ensures grid_after_2 { grid.new ≡ marked ink.choice ink.mark (if moved then place_of w ∷ [] else []) grid.old }
 {
     if moved {
-        let new = scan::mark::mark_cell(grid, w.place(), mark, choice) as u32;
+        let new = u32::from(ink.mark_cell(grid, w.place()));
         return Drawn {
             answer: drawn.answer + 1,
             new_cells: drawn.new_cells + new,

@@ -79,8 +79,6 @@ module _ {points : List ℕ} {n m apart across at : ℕ} (l : InFace points n m 
       starts_across
       (doubled_column points n apart at) (doubled_column points n apart (across + at))
       (doubled_column points n apart (2 * across + at)) (doubled_column points n apart (3 * across + at))
-      (column_room (in_column at b0) 0 zero-le) (column_room (in_column (across + at) b1) 0 zero-le)
-      (column_room (in_column (2 * across + at) b2) 0 zero-le) (column_room (in_column (3 * across + at) h) 0 zero-le)
       (start_across_lem
       (doubled_column points n apart at) (doubled_column points n apart (across + at))
       (doubled_column points n apart (2 * across + at)) (doubled_column points n apart (3 * across + at)) l.m_most

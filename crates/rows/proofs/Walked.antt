@@ -18,16 +18,12 @@ use Rattle.drawing.proofs.Samples.{rows_first, rows_more}
 use Rattle.cubic.specs.Differences.{delta, differences_at, next_of, IsBicubic}
 use Rattle.cubic.specs.Tracks.{Doubles}
 use Rattle.cubic.proofs.Tracks.{row_tracks}
-use Rattle.surface.specs.declared.Surface.{Surface}
-use Rattle.surface.specs.Surface.{surface_of, next_surface, no_cubic, along_t, Bounded}
+use Rattle.surface.specs.Surface.{Surface, surface_of, next_surface, no_cubic, along_t, Bounded}
 use Rattle.surface.proofs.Follows.{surface_next, surface_room, sample_room}
-use Rattle.scan.specs.declared.walker.Strides.{Strides}
-use Rattle.scan.specs.declared.walker.Walker.{Walker}
-use Rattle.scan.specs.Walker.{axis_of, stride_of, grid_strides, place_of}
+use Rattle.scan.specs.Walker.{Strides, Walker, axis_of, stride_of, grid_strides, place_of}
 use Rattle.scan.proofs.Samples.{Walk, At, at_next, at_steps, grid_walk, corner_tracks, row_on_grid, row_places}
 use Rattle.rows.specs.declared.Line.{Line}
-use Rattle.rows.specs.declared.Lines.{Lines}
-use Rattle.rows.specs.Lines.{start_line, line_of, LinesRoom, next_lines, row_line, row_walker, lines_after}
+use Rattle.rows.specs.Lines.{Lines, start_line, line_of, LinesRoom, next_lines, row_line, row_walker, lines_after}
 use Rattle.rows.specs.Lines.{row_of_walkers, rows_of_walkers, RowsOnGrid}
 
 -- The rows 0 to m of n + 1 samples: P doubles the exact values and has room at every sample.

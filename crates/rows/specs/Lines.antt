@@ -1,26 +1,25 @@
 -- Rows by their differences, on one axis and on three: what the machine goes through, and within which limits.
 use Rattle.std.specs.Prelude.{List, ◌++◌, ℕ, zero, suc, ◌≤◌, ◌<◌, ℤ}
-use Rattle.cube.specs.Cube.{Axis, x_axis, y_axis, z_axis}
+use Rattle.cube.specs.Cube.{Axis}
 use Rattle.cubic.specs.declared.axis.Axis as machine
 use Rattle.cubic.specs.Differences.{next_of}
 use Rattle.cubic.specs.Axis.{start_of, row_of, step_of}
 use Rattle.cubic.specs.Room.{Room, Steps}
-use Rattle.surface.specs.declared.Surface.{Surface}
-use Rattle.scan.specs.declared.walker.Strides.{Strides}
-use Rattle.scan.specs.declared.walker.Walker.{Walker}
-use Rattle.scan.specs.Walker.{stride_of, walkers, OnGrid}
+use Rattle.surface.specs.Surface.{Surface}
+use Rattle.scan.specs.declared.xyz.Xyz.{Xyz}
+use Rattle.scan.specs.Walker.{Strides, Walker, on, mapped, paired, stride_of, walkers, OnGrid}
 use Rattle.rows.specs.declared.Line.{Line}
-use Rattle.rows.specs.declared.Lines.{Lines}
 
 -- Row 0 of a surface on one axis, in the cell of point 0.
 abbrev pub start_line : (stride point : ℤ) → Surface → Line
 start_line stride point s =
     record { walk = start_of stride point s.value; d1 = s.d1; d2 = s.d2; d3 = s.d3 }
 
+abbrev pub Lines : Type 0
+Lines = Xyz Line
+
 abbrev pub line_of : Lines → Axis → Line
-line_of l x_axis = l.x
-line_of l y_axis = l.y
-line_of l z_axis = l.z
+line_of l a = on l a
 
 -- There is room for the next row on one axis, and on three.
 pub record LineRoom (scale stride : ℤ) (l : Line) : Type 0 where
@@ -42,18 +41,14 @@ next_line scale stride l = record {
 }
 
 abbrev pub next_lines : (scale : ℤ) (h : Strides) → Lines → Lines
-next_lines scale h l = record {
-  x = next_line scale h.x l.x;
-  y = next_line scale h.y l.y;
-  z = next_line scale h.z l.z;
-}
+next_lines scale h l = paired (next_line scale) h l
 
 -- The row's first sample on one axis, and on three: the walk's cell and remainder, and the differences along t.
 abbrev pub row_line : Line → machine.Axis
 row_line l = row_of l.walk l.d1 l.d2 l.d3
 
 abbrev pub row_walker : Lines → Walker
-row_walker l = record { x = row_line l.x; y = row_line l.y; z = row_line l.z }
+row_walker l = mapped row_line l
 
 -- After j rows.
 unfoldable pub lines_after : (scale : ℤ) (h : Strides) (l : Lines) (j : ℕ) → Lines

@@ -4,11 +4,13 @@ use mathlib.Core.Logic.{◌↔◌}
 use mathlib.Core.List.{List, Memᴰ}
 use Prim.Native.Nat.{ℕ}
 use lib.ListN.{length}
-use Rattle.decide.proofs.Refusal.{by_verdict}
+use Rattle.std.specs.Prelude.{Result}
+use Rattle.decide.specs.declared.Refusal.{Refusal}
+use Rattle.decide.proofs.FirstThat.{by_verdict}
 use Rattle.cube.specs.Cube.{Cell}
 use Rattle.drawing.specs.Drawing.{Drawing, drawn_by}
 use Rattle.drawing.proofs.Drawn.{drawn_refused, drawn_accepted, drawn_in_any_order}
-use Rattle.scan.specs.declared.answer.DrawAnswer.{DrawAnswer}
+use Rattle.scan.specs.declared.answer.Drawn.{Drawn}
 use Rattle.scan.specs.Answer.{Draws}
 use Rattle.scan.proofs.Unique.{grid_unique, draw_answer_unique}
 
@@ -32,12 +34,12 @@ module _ (d e : Drawing) (w : Alike d e) where
       (λ k r. drawn_refused d grid r ∙ sym (drawn_refused e grid (sym (w.verdict (length grid)) ∙ r)))
 
   -- What the one call answers and leaves is what the other would.
-  pub as_the_other : {grid gridNow : List ℕ} {r : DrawAnswer} → Draws d grid gridNow r → Draws e grid gridNow r
+  pub as_the_other : {grid gridNow : List ℕ} {r : Result Drawn Refusal} → Draws d grid gridNow r → Draws e grid gridNow r
   as_the_other {grid} c = record {
     answer = c.answer ∙ rw (w.verdict (length grid), w.answer);
     leaves = c.leaves ∙ same_grid grid;
   }
 
-  pub draw_the_same : {grid one other : List ℕ} {r s : DrawAnswer} → Draws d grid one r → Draws e grid other s →
+  pub draw_the_same : {grid one other : List ℕ} {r s : Result Drawn Refusal} → Draws d grid one r → Draws e grid other s →
       (r ≡ s) × (one ≡ other)
   draw_the_same {grid} c f = (draw_answer_unique e grid (as_the_other c) f, grid_unique e grid (as_the_other c) f)

@@ -6,14 +6,14 @@ use mathlib.Core.List.{List, [], ◌∷◌}
 use Prim.Native.Nat.{ℕ, ◌+◌, ◌≤◌, ◌<◌}
 use lib.Dec.{eqb}
 use lib.ListN.{length, get_or}
+use Rattle.std.specs.Prelude.{Result, Ok, Err}
 use Rattle.decide.specs.Some.{some_of}
 use Rattle.decide.specs.Refusal.{◌when◌, Verdict, accepted, refused, first_that, or_else}
-use Rattle.decide.specs.declared.Verdict as found
-use Rattle.decide.specs.declared.Verdict.TheVariants.{Accepted, Refused}
-use Rattle.decide.specs.Verdict.{verdict_of}
+use Rattle.decide.specs.declared.Refusal.{Refusal}
+use Rattle.decide.specs.Verdict.{number_of}
 use Rattle.decide.proofs.Truth.{false_iff}
 use Rattle.decide.proofs.Some.{some_of_lem}
-use Rattle.decide.proofs.Refusal.{accepted_none, first_append}
+use Rattle.decide.proofs.FirstThat.{accepted_none, first_append}
 use Rattle.cube.specs.Cube.{side_out, volume}
 use Rattle.cube.proofs.Words.{side_in_lem}
 use Rattle.drawing.specs.Object.{Object}
@@ -24,30 +24,29 @@ use Rattle.drawing.proofs.Accepted.{coordinate_in}
 use Rattle.drawing.proofs.Drawn.{drawn_refused}
 use Rattle.drawing.proofs.Listed.{listed_refused}
 use Rattle.drawing.proofs.NewCells.{new_of_lem}
-use Rattle.scan.specs.declared.answer.DrawAnswer.TheVariants as answers
-use Rattle.scan.specs.declared.answer.ListAnswer.TheVariants as listings
+use Rattle.scan.specs.declared.answer.Drawn.{Drawn}
 use Rattle.scan.specs.Answer.{Draws, Lists}
 use Rattle.scan.specs.Refusals.{before_steps}
 
 -- The verdict of the step test.
-pub step_verdict : Object → Verdict
+abbrev pub step_verdict : Object → Verdict
 step_verdict o = first_that (15 when steps_too_long o ∷ [])
 
 module _ (S : ℕ) (o : Object) (g m l : Bool) where
   -- What comes before the step test, and the step test.
   pub order_parts : (out : Bool) → out ≡ some_of (count_out o.most) o.counts →
       first_that (order S o g m l) ≡ or_else (first_that (before_steps S o.points g m out l)) (step_verdict o)
-  unfolding order before_steps step_verdict
+  unfolding order before_steps
   order_parts out e = rw e (first_append (before_steps S o.points g m (some_of (count_out o.most) o.counts) l) _)
 
 -- Where a long step decides, and where none does.
 module _ (o : Object) where
   pub long_refused : steps_too_long o ≡ true → step_verdict o ≡ refused 15
-  unfolding step_verdict first_that
+  unfolding first_that
   long_refused e = rw e
 
   pub short_accepted : steps_too_long o ≡ false → step_verdict o ≡ accepted
-  unfolding step_verdict first_that
+  unfolding first_that
   short_accepted e = rw e
 
 -- Past the tests before the step test.
@@ -71,24 +70,21 @@ passed S points g m out l e =
       coordinate_below = λ k h. (coordinate_in S (get_or points k 0)).0 (λ t. below ((some_of_lem (coordinate_out S) points).1 (k, h, t)));
     }
 
--- A call's verdict, where v is what the tests before the step test answered and long what the step test did.
-module _ (S : ℕ) (o : Object) (g m l out : Bool) (count : out ≡ some_of (count_out o.most) o.counts) (v : found.Verdict)
-    (e : verdict_of v ≡ first_that (before_steps S o.points g m out l)) where
-  parts : first_that (order S o g m l) ≡ or_else (verdict_of v) (step_verdict o)
-  parts = order_parts S o g m l out count ∙ ap (λ w. or_else w (step_verdict o)) (sym e)
-
+-- A call's verdict, by what the tests before the step test found, and then by what the step test did.
+module _ (S : ℕ) (o : Object) (g m l : Bool) {out : Bool} (count : out ≡ some_of (count_out o.most) o.counts) where
   -- A number before the step test.
-  pub refused_before : {k : ℕ} → v ≡ Refused k → refused k ≡ first_that (order S o g m l)
-  refused_before q = sym (parts ∙ ap (λ w. or_else (verdict_of w) (step_verdict o)) q)
+  pub refused_before : {k : ℕ} → refused k ≡ first_that (before_steps S o.points g m out l) →
+      refused k ≡ first_that (order S o g m l)
+  refused_before e = sym (order_parts S o g m l out count ∙ ap (λ v. or_else v (step_verdict o)) (sym e))
 
-  module _ (q : v ≡ Accepted) where
+  module _ (e : accepted ≡ first_that (before_steps S o.points g m out l)) where
     pub past_tests : Passed S o.points out
-    past_tests = passed S o.points g m out l (sym e ∙ ap verdict_of q)
+    past_tests = passed S o.points g m out l (sym e)
 
-    steps_decide : first_that (order S o g m l) ≡ step_verdict o
-    steps_decide = parts ∙ ap (λ w. or_else (verdict_of w) (step_verdict o)) q
+    -- 15 or no number, as the step test says.
+    pub steps_decide : first_that (order S o g m l) ≡ step_verdict o
+    steps_decide = order_parts S o g m l out count ∙ ap (λ v. or_else v (step_verdict o)) (sym e)
 
-    -- 15, and no number.
     pub refused_long : {long : Bool} → long ≡ steps_too_long o → long ≡ true → refused 15 ≡ first_that (order S o g m l)
     refused_long t b = sym (steps_decide ∙ long_refused o (sym t ∙ b))
 
@@ -103,15 +99,16 @@ draw_judged S o bytes same = rw same
 
 -- A drawing's answer and grid, by its verdict.
 module _ (d : Drawing) (grid : List ℕ) where
-  pub draws_refused : {k : ℕ} → d.verdict (length grid) ≡ refused k → Draws d grid grid (answers.Refused k)
-  draws_refused r = record { answer = rw r; leaves = sym (drawn_refused d grid r) }
+  pub draws_refused : {why : Refusal} {r : Result Drawn Refusal} → d.verdict (length grid) ≡ refused (number_of why) →
+      r ≡ Err why → Draws d grid grid r
+  draws_refused v same = record { answer = rw (same, v); leaves = sym (drawn_refused d grid v) }
 
   pub draws_accepted : d.verdict (length grid) ≡ accepted → (after : List ℕ) {count new : ℕ} →
       after ≡ drawn_by d grid → count ≡ d.answer → new + unmarked_cells after ≡ unmarked_cells grid →
-      Draws d grid after (answers.Accepted (record { answer = count; new_cells = new }))
+      Draws d grid after (Ok (record { answer = count; new_cells = new }))
   draws_accepted a after e n k = record { answer = rw (a, n, new_of_lem grid after k); leaves = e }
 
 -- A refused listing's answer and list.
-pub lists_refused : (l : Listing) (list : List ℕ) {k : ℕ} → l.verdict (length list) ≡ refused k →
-    Lists l list list (listings.Refused k)
-lists_refused l list r = record { answer = rw r; leaves = sym (listed_refused l list r) }
+pub lists_refused : (l : Listing) (list : List ℕ) {why : Refusal} {r : Result ℕ Refusal} →
+    l.verdict (length list) ≡ refused (number_of why) → r ≡ Err why → Lists l list list r
+lists_refused l list v same = record { answer = rw (same, v); leaves = sym (listed_refused l list v) }

@@ -4,9 +4,7 @@ use Prim.Native.Nat.{ℕ, zero, suc, ◌≤◌, ◌<◌, zero-le}
 use native.Mathlib.Omega.{arith}
 use lib.IntN.{ℤ}
 use lib.ListN.{length, length-append}
-use Rattle.scan.specs.declared.walker.Walker.{Walker}
-use Rattle.scan.specs.declared.walker.Strides.{Strides}
-use Rattle.scan.specs.Walker.{StepsAll, step_all, after, walkers, RowRoom}
+use Rattle.scan.specs.Walker.{Walker, Strides, StepsAll, step_all, after, walkers, RowRoom}
 
 -- The walker after i of n steps.
 pub record AfterSteps (scale : ℤ) (h : Strides) (w₀ : Walker) (n i : ℕ) (w : Walker) : Type 0 where

@@ -24,9 +24,7 @@ use Rattle.cubic.specs.Room.{Room, Steps}
 use Rattle.cubic.specs.Tracks.{Doubles, Tracks}
 use Rattle.cubic.proofs.Tracks.{start_tracks, step_tracks, remainder_owns}
 use Rattle.cubic.proofs.Levels.{tracks_steps}
-use Rattle.scan.specs.declared.walker.Walker.{Walker}
-use Rattle.scan.specs.declared.walker.Strides.{Strides}
-use Rattle.scan.specs.Walker.{axis_of, stride_of, grid_strides, list_strides, SmallStrides, StepsAll, step_all, after, HasPlace, place_of}
+use Rattle.scan.specs.Walker.{Walker, Strides, axis_of, stride_of, grid_strides, list_strides, SmallStrides, StepsAll, step_all, after, HasPlace, place_of}
 use Rattle.scan.specs.Walker.{cell_of_walker, walkers, OnGrid, OnList}
 use Rattle.scan.proofs.Natural.{square_at_most}
 

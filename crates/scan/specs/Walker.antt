@@ -5,18 +5,32 @@ use Rattle.cube.specs.Cube.{Axis, x_axis, y_axis, z_axis, Cell}
 use Rattle.cubic.specs.declared.axis.Axis as machine
 use Rattle.cubic.specs.Axis.{step_of}
 use Rattle.cubic.specs.Room.{Steps}
-use Rattle.scan.specs.declared.walker.Strides.{Strides}
-use Rattle.scan.specs.declared.walker.Walker.{Walker}
+use Rattle.scan.specs.declared.xyz.Xyz.{Xyz}
+
+-- What is held on an axis.
+abbrev pub on : {T : Type 0} → Xyz T → Axis → T
+on p x_axis = p.x
+on p y_axis = p.y
+on p z_axis = p.z
+
+-- The same of each, alone and with what another holds on that axis.
+abbrev pub mapped : {T U : Type 0} → (T → U) → Xyz T → Xyz U
+mapped f p = record { x = f p.x; y = f p.y; z = f p.z }
+
+abbrev pub paired : {T U V : Type 0} → (T → U → V) → Xyz T → Xyz U → Xyz V
+paired f p q = record { x = f p.x q.x; y = f p.y q.y; z = f p.z q.z }
+
+abbrev pub Walker : Type 0
+Walker = Xyz machine.Axis
+
+abbrev pub Strides : Type 0
+Strides = Xyz ℤ
 
 abbrev pub axis_of : Walker → Axis → machine.Axis
-axis_of w x_axis = w.x
-axis_of w y_axis = w.y
-axis_of w z_axis = w.z
+axis_of w a = on w a
 
 abbrev pub stride_of : Strides → Axis → ℤ
-stride_of h x_axis = h.x
-stride_of h y_axis = h.y
-stride_of h z_axis = h.z
+stride_of h a = on h a
 
 -- A grid's strides are 1, S and S × S, so that a cell stands at byte x + S × y + S × S × z.
 abbrev pub grid_strides : (S : ℕ) → Strides
@@ -39,11 +53,7 @@ pub record StepsAll (scale : ℤ) (h : Strides) (w : Walker) : Type 0 where
 
 -- A step on every axis.
 abbrev pub step_all : (scale : ℤ) (h : Strides) → Walker → Walker
-step_all scale h w = record {
-  x = step_of scale h.x w.x;
-  y = step_of scale h.y w.y;
-  z = step_of scale h.z w.z;
-}
+step_all scale h w = paired (step_of scale) h w
 
 -- After i steps.
 unfoldable pub after : (scale : ℤ) (h : Strides) (w : Walker) (i : ℕ) → Walker

@@ -8,3 +8,4 @@ pub mod mark;
 pub mod number;
 pub mod refusal;
 pub mod walker;
+pub mod xyz;

@@ -1,8 +1,8 @@
 // The listing of cells.
-ghost use Rattle.std.specs.Prelude.{◌≡◌, map, ◌++◌, suc, ◌+◌, ◌*◌, ◌≤◌, nat_abs, length, drop};
+ghost use Rattle.std.specs.Prelude.{◌≡◌, map, ◌++◌, suc, ◌+◌, ◌*◌, ◌≤◌, length, drop};
 ghost use Rattle.std.proofs.lemmas.List.Edits.{sets};
 ghost use Rattle.drawing.specs.Drawing.{bytes};
-ghost use Rattle.scan.specs.Walker.{cell_of_walker, walkers, IsByte, ByteCell, OnList, coordinates};
+ghost use Rattle.scan.specs.Walker.{cell_of_walker, walkers, ByteCell, OnList, coordinates};
 
 use crate::walker::{Strides, Walker};
 
@@ -12,19 +12,9 @@ pub fn put_cell(list: &mut [u8], at: usize, w: Walker)
     requires at_in_bounds { at + 3 ≤ length list.old }
     ensures { list.new ≡ sets list.old at (coordinates (cell_of_walker w)) }
 {
-    let x = w.x;
-    let y = w.y;
-    let z = w.z;
-    list[at] = byte(x.at);
-    list[at + 1] = byte(y.at);
-    list[at + 2] = byte(z.at);
-}
-
-fn byte(z: i64) -> u8
-    requires { IsByte z }
-    ensures { result ≡ nat_abs z }
-{
-    z as u8
+    list[at] = w.x.at as u8;
+    list[at + 1] = w.y.at as u8;
+    list[at + 2] = w.z.at as u8;
 }
 
 // Lists the cells of a row: the walker's, and that of each of n steps.
@@ -36,7 +26,7 @@ pub fn list_row(start: Walker, n: u32, scale: i64, h: Strides, list: &mut [u8])
     let mut w = start;
     let mut at = 0;
     put_cell(list, at, w);
-    for i in 0..n {
+    for _ in 0..n {
         w = w.step(scale, h);
         at += 3;
         put_cell(list, at, w);

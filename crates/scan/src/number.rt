@@ -5,27 +5,13 @@ ghost use Rattle.scan.specs.Column.{InColumn, doubled_column, AtBytes, doubled_t
 ghost use Rattle.scan.specs.Walker.{grid_strides};
 
 use crate::walker::Strides;
-use cubic::differences::Cubic;
-
-// A coordinate.
-pub fn coordinate(c: u8) -> i64
-    ensures { result ≡ pos c }
-{
-    c as i64
-}
+use cubic::differences::{Cubic, Forward};
 
 // Twice a coordinate: the machine works on twice the value.
-pub fn doubled(c: u8) -> i64
+fn doubled(c: u8) -> i64
     ensures { result ≡ pos (2 * c) }
 {
-    2 * coordinate(c)
-}
-
-// A step count.
-pub fn count(n: u32) -> i64
-    ensures { result ≡ pos n }
-{
-    n as i64
+    2 * i64::from(c)
 }
 
 // Sample 0 of the cubic along the first parameter through the coordinates at four bytes of the points: its doubled value and
@@ -34,8 +20,8 @@ pub fn start_through(points: &[u8], n: u32, b0: usize, b1: usize, b2: usize, b3:
     requires { AtBytes points.now n b0 b1 b2 b3 }
     ensures { result ≡ differences_at (doubled_through points.now n b0 b1 b2 b3) 0 }
 {
-    cubic::differences::start(
-        count(n),
+    Cubic::start(
+        i64::from(n),
         doubled(points[b0]),
         doubled(points[b1]),
         doubled(points[b2]),
@@ -56,8 +42,7 @@ pub fn cubed(n: u32) -> i64
     requires { n ≤ 512 }
     ensures { result ≡ pos (n * n * n) }
 {
-    let k = count(n);
-    k * k * k
+    i64::from(n * n * n)
 }
 
 // The strides of a grid: 1, S and S × S.
@@ -65,10 +50,9 @@ pub fn grid_strides(side: u32) -> Strides
     requires { side ≤ 64 }
     ensures { result ≡ grid_strides side }
 {
-    let s = count(side);
     Strides {
         x: 1,
-        y: s,
-        z: s * s,
+        y: i64::from(side),
+        z: i64::from(side * side),
     }
 }

@@ -7,29 +7,17 @@ ghost use Rattle.cube.specs.Cube.{volume};
 ghost use Rattle.drawing.specs.Refusals.{count_out, coordinate_out};
 ghost use Rattle.scan.specs.Refusals.{before_steps};
 
-use decide::Verdict;
+use decide::Refusal;
 
 // Some coordinate is not below the side.
 fn some_coordinate_out(side: u32, points: &[u8]) -> bool
     ensures { result ≡ some_of (coordinate_out side) points.now }
 {
-    let mut i = 0;
-    while i < points.len() {
-        if wide(points[i]) >= side {
-            return true;
-        }
-        i += 1;
-    }
-    false
-}
-
-fn wide(x: u8) -> u32
-    ensures { result ≡ x }
-{
-    x as u32
+    points.iter().any(|&c| u32::from(c) >= side)
 }
 
 // A step count is outside its range, 1 to most.
+#[tactic(auto, unfolding(drawing::specs::Refusals::count_out))]
 pub fn is_count_out(most: u32, n: u32) -> bool
     ensures { result ≡ count_out most n }
 {
@@ -40,14 +28,13 @@ pub fn is_count_out(most: u32, n: u32) -> bool
 pub fn is_volume(side: u32, bytes: usize) -> bool
     ensures { result ≡ eqb bytes (volume side) }
 {
-    if 2642245 < side {
-        return false;
-    }
     let s = side as usize;
-    bytes == s * s * s
+    side <= 2642245 && bytes == s * s * s
 }
 
-// The first number that applies of 11, 21, 12, 13, 22 and 14, with what grid, mark, counts and list have to say.
+// The first number that applies of 11, 21, 12, 13, 22 and 14, with what grid, mark, counts and list have to say: four tests,
+// one by one as the definition takes them.
+#[tactic(auto, unfolding(crate::specs::Refusals::before_steps, decide::specs::Refusal::first_that, cube::specs::Cube::side_out))]
 pub fn before_steps(
     side: u32,
     points: &[u8],
@@ -55,27 +42,27 @@ pub fn before_steps(
     mark_wrong: bool,
     count_out: bool,
     list_short: bool,
-) -> Verdict
+) -> Result<(), Refusal>
     ensures { verdict_of result ≡
         first_that (before_steps side points.now grid_wrong mark_wrong count_out list_short) }
 {
     if side < 2 || 64 < side {
-        return Verdict::Refused(11);
+        return Err(Refusal::Side);
     }
     if grid_wrong {
-        return Verdict::Refused(21);
+        return Err(Refusal::Length);
     }
     if mark_wrong {
-        return Verdict::Refused(12);
+        return Err(Refusal::Mark);
     }
     if count_out {
-        return Verdict::Refused(13);
+        return Err(Refusal::Steps);
     }
     if list_short {
-        return Verdict::Refused(22);
+        return Err(Refusal::Short);
     }
     if some_coordinate_out(side, points) {
-        return Verdict::Refused(14);
+        return Err(Refusal::Coordinate);
     }
-    Verdict::Accepted
+    Ok(())
 }

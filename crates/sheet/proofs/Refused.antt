@@ -10,7 +10,7 @@ use lib.Seq.{take_at, drop_at}
 use borrow.Author.Tests.{le-ltb, ltb-false}
 use Rattle.decide.specs.Some.{some_below}
 use Rattle.decide.specs.Refusal.{accepted, first_that}
-use Rattle.decide.proofs.Refusal.{accepted_passes}
+use Rattle.decide.proofs.FirstThat.{accepted_passes}
 use Rattle.decide.proofs.Truth.{both_false}
 use Rattle.sheet.specs.Field.{value_of, columns}
 use Rattle.sheet.specs.Line.{field, number, some_bad, in_line, as_line}

@@ -7,7 +7,7 @@ use lib.Dec.{ltb, lit≤}
 use borrow.Author.Tests.{ltb-false}
 use Rattle.decide.specs.Some.{some_of}
 use Rattle.decide.specs.Refusal.{Verdict, accepted, refused, first_that, numbers}
-use Rattle.decide.proofs.Refusal.{accepted_passes, refused_most}
+use Rattle.decide.proofs.FirstThat.{accepted_passes, refused_most}
 use Rattle.decide.proofs.Truth.{true_of, less}
 use Rattle.drawing.specs.Refusals.{order}
 use Rattle.sheet.specs.Line.{lines, number}

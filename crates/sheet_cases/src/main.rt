@@ -20,162 +20,68 @@
 
 mod printed;
 
-ghost use Rattle.std.specs.Prelude.{◌≡◌, length};
-
-use cases::block::Progress;
-use cases::bytes::{fill, low_byte};
-use cases::digest::{Digest, begun, eight, extended};
+use cases::answer::{Answer, Digits};
+use cases::block::write_answers;
+use cases::bytes::fill;
+use cases::digest::Digest;
 use cases::input::{read_bytes, read_heading};
-use cases::record::number;
-use cases::turns::Turns;
-use sheet_cube::Answer;
+use cases::record::{byte, number};
+use cases::run::{Stop, run};
+use sheet_cube::{LineRefusal, Sheet};
 use std::io::{Stdin, Stdout};
 
 fn main(rt: HostRuntime) {
     let mut buffer = [0u8; 65536];
-    let mut turns = Turns::all();
-    while turns.left > 0 {
-        let progress = answer_next(rt.stdin(), rt.stdout(), &mut buffer);
-        turns = turns.after(progress, rt.stdout(), rt.stderr());
-    }
+    run(rt.stdout(), rt.stderr(), || {
+        answer_next(rt.stdin(), rt.stdout(), &mut buffer)
+    });
 }
 
-// Answers the next case.
-fn answer_next(input: Stdin, output: Stdout, buffer: &mut [u8]) -> Progress {
+// Reads the next case and writes its answer. One that asks for more bytes than there are is a failure.
+fn answer_next(input: Stdin, output: Stdout, buffer: &mut [u8; 65536]) -> Result<(), Stop> {
     let mut heading = [0u8; 46];
+    read_heading(input, &mut heading, b'S')?;
+    let lent = number(&heading, 0) as usize;
+    let count = number(&heading, 4) as usize;
     let mut sheet = [0u8; 16384];
-    let mut text = [0u8; 33621];
-    answer_input(input, output, &mut heading, &mut sheet, &mut text, buffer)
-}
-
-// Reads a case and writes its answer.
-fn answer_input(
-    input: Stdin,
-    output: Stdout,
-    heading: &mut [u8],
-    sheet: &mut [u8],
-    text: &mut [u8],
-    buffer: &mut [u8],
-) -> Progress
-    requires { (length heading.old ≡ 46) × (length text.old ≡ 33621) }
-{
-    let read = read_heading(input, heading, b'S');
-    match read {
-        Progress::More => answer_case(input, output, heading, sheet, text, buffer),
-        _ => read,
+    if buffer.len() < lent || sheet.len() < count {
+        return Err(Stop::Failed);
     }
-}
-
-// Answers the case of a heading. One that asks for more bytes than there are is a failure.
-fn answer_case(
-    input: Stdin,
-    output: Stdout,
-    heading: &[u8],
-    sheet: &mut [u8],
-    text: &mut [u8],
-    buffer: &mut [u8],
-) -> Progress
-    requires { (length heading.now ≡ 46) × (length text.old ≡ 33621) }
-{
-    let lent = number(heading, 0) as usize;
-    let count = number(heading, 4) as usize;
-    if buffer.len() < lent {
-        return Progress::Failed;
-    }
-    if sheet.len() < count {
-        return Progress::Failed;
-    }
-    answer_lent(
-        input,
-        output,
-        heading,
-        &mut sheet[..count],
-        text,
-        &mut buffer[..lent],
-    )
-}
-
-// Reads the sheet and answers it.
-fn answer_lent(
-    input: Stdin,
-    output: Stdout,
-    heading: &[u8],
-    sheet: &mut [u8],
-    text: &mut [u8],
-    lent: &mut [u8],
-) -> Progress
-    requires { (length heading.now ≡ 46) × (length text.old ≡ 33621) }
-{
-    let read = read_bytes(input, sheet);
-    match read {
-        Progress::More => answer_sheet(output, heading, sheet, text, lent),
-        _ => read,
-    }
-}
-
-// Draws the sheet and writes the answer.
-fn answer_sheet(
-    output: Stdout,
-    heading: &[u8],
-    sheet: &[u8],
-    text: &mut [u8],
-    lent: &mut [u8],
-) -> Progress
-    requires { (length heading.now ≡ 46) × (length text.old ≡ 33621) }
-{
-    let answer = draw_filled(heading, sheet, lent);
-    let held = extended(begun(1), lent);
-    let printed = printed::printed(answer, lent, number(heading, 3), text);
-    match answer {
-        Answer::Drawn(drawn) => write_answer(
-            output,
-            b'A',
-            drawn.side,
-            drawn.curves,
-            drawn.new_cells,
-            held,
-            printed,
-        ),
-        Answer::Refused(refusal) => {
-            write_answer(output, b'R', refusal.number, refusal.line, 0, held, printed)
-        }
-    }
-}
-
-// Fills the lent bytes and draws the sheet.
-fn draw_filled(heading: &[u8], sheet: &[u8], lent: &mut [u8]) -> Answer
-    requires { length heading.now ≡ 46 }
-{
-    fill(
-        lent,
-        low_byte(number(heading, 1)),
-        low_byte(number(heading, 2)),
-    );
-    sheet_cube::draw_sheet(sheet, lent)
-}
-
-// Writes an answer record, and says how it goes on.
-fn write_answer(
-    output: Stdout,
-    letter: u8,
-    a: u32,
-    b: u32,
-    new_cells: u32,
-    held: Digest,
-    printed: Digest,
-) -> Progress {
-    let numbers = [
-        a,
-        b,
-        new_cells,
-        eight(held.marked),
-        eight(held.first),
-        eight(held.second),
-        eight(printed.marked),
-        eight(printed.first),
-        eight(printed.second),
-    ];
+    read_bytes(input, &mut sheet[..count])?;
     let mut record = [0u8; 83];
-    cases::answer::put_answer(letter, false, &numbers, &mut record, 0);
-    cases::block::write_answers(output, &record, 83, Progress::More)
+    answer_sheet(&heading, &sheet[..count], &mut buffer[..lent]).put(&mut record);
+    write_answers(output, &record)
+}
+
+// Draws the sheet into the lent bytes, once these are filled, and answers what they then hold and what is printed.
+fn answer_sheet(heading: &[u8; 46], sheet: &[u8], lent: &mut [u8]) -> Answer<9> {
+    let mut text = [0u8; 33621];
+    fill(lent, byte(heading, 1), byte(heading, 2));
+    let answer = sheet_cube::draw_sheet(sheet, lent);
+    let held = Digest::begun(1).extended(lent);
+    let printed = printed::printed(answer, lent, number(heading, 3), &mut text);
+    answered(answer, held, printed)
+}
+
+// The answer of a sheet, with the digests of what the lent bytes hold and of what is printed.
+fn answered(answer: Result<Sheet, LineRefusal>, held: Digest, printed: Digest) -> Answer<9> {
+    let (letter, [a, b, new_cells]) = match answer {
+        Ok(drawn) => (b'A', [drawn.side, drawn.curves, drawn.new_cells]),
+        Err(refused) => (b'R', [u32::from(refused.refusal), refused.line, 0]),
+    };
+    Answer {
+        letter,
+        digits: Digits::Decimal,
+        numbers: [
+            a,
+            b,
+            new_cells,
+            held.marked,
+            held.first,
+            held.second,
+            printed.marked,
+            printed.first,
+            printed.second,
+        ],
+    }
 }

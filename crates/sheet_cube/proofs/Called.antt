@@ -9,6 +9,9 @@ use lib.Dec.{eqb}
 use borrow.Author.Tests.{ne_eqb}
 use lib.ListN.{length, take, drop}
 use lib.Seq.{take_at, length-take-le}
+use Rattle.std.specs.Prelude.{Result, Ok, Err}
+use Rattle.decide.specs.declared.Refusal.TheVariants as why
+use Rattle.decide.specs.Verdict.{number_of}
 use Rattle.decide.proofs.Truth.{decided, equal}
 use Rattle.cube.specs.Cube.{volume}
 use Rattle.sheet.specs.Sheet.{Stroke, Judged, good, bad, judge}
@@ -16,9 +19,8 @@ use Rattle.sheet.specs.Printed.{cube_of}
 use Rattle.sheet.proofs.NewCells.{length_cube}
 use Rattle.sheet.specs.Call.{judge_call, new_cells_of, Said, drew, refused, said, buffer_after}
 use Rattle.sheet_cube.specs.declared.judge.Size.{Size}
-use Rattle.sheet_cube.specs.declared.Refusal.{Refusal}
-use Rattle.sheet_cube.specs.declared.Answer.{Answer}
-use Rattle.sheet_cube.specs.declared.Answer.TheVariants as answer
+use Rattle.sheet_cube.specs.declared.LineRefusal.{LineRefusal}
+use Rattle.sheet_cube.specs.declared.Sheet.{Sheet}
 use Rattle.sheet_cube.specs.Answer.{said_of, DrawsSheet}
 use Rattle.sheet_cube.specs.Lines.{Found, sized, fault, found}
 use Rattle.sheet_cube.proofs.Judged.{good≢bad}
@@ -42,13 +44,13 @@ pub record Accepted (input bufferNow : List ℕ) (S n new : ℕ) : Type 0 where
   pub sum : new_cells_of S strokes ≡ new
   pub cube : take (volume S) bufferNow ≡ cube_of S strokes
 
-abbrev number_of : Found → ℕ
-number_of (sized S n) = 0
-number_of (fault n k) = n
+abbrev number_in : Found → ℕ
+number_in (sized S n) = 0
+number_in (fault n k) = n
 
-abbrev line_of : Found → ℕ
-line_of (sized S n) = 0
-line_of (fault n k) = k
+abbrev line_in : Found → ℕ
+line_in (sized S n) = 0
+line_in (fault n k) = k
 
 abbrev is_fault : Found → Type 0
 is_fault (sized S n) = ⊥
@@ -57,7 +59,7 @@ is_fault (fault n k) = Unit
 -- A sheet that is found to have a fault is bad, with its number and line.
 pub is_bad_lem : (j : Judged) {n k : ℕ} → found j ≡ fault n k → j ≡ bad n k
 is_bad_lem (good S strokes) e = absurd (subst is_fault (sym e) tt)
-is_bad_lem (bad n k) e = ap (λ s. bad (number_of s) (line_of s)) e
+is_bad_lem (bad n k) e = ap (λ s. bad (number_in s) (line_in s)) e
 
 -- What a call says of a sheet says what is found of it.
 abbrev found_by : Said → Found
@@ -73,7 +75,7 @@ abbrev new_of : Said → ℕ
 new_of (drew S n new) = new
 new_of (refused n k) = 0
 
-module _ {input buffer bufferNow : List ℕ} {r : Answer} (d : DrawsSheet input buffer bufferNow r) where
+module _ {input buffer bufferNow : List ℕ} {r : Result Sheet LineRefusal} (d : DrawsSheet input buffer bufferNow r) where
   pub called_accepted : {S n new : ℕ} → said_of r ≡ drew S n new → Accepted input bufferNow S n new
   called_accepted {S} e =
       let g = is_good_lem (judge_call input buffer) (found_said (judge_call input buffer) (sym d.answer ∙ e)) in
@@ -92,14 +94,14 @@ module _ {input buffer bufferNow : List ℕ} {r : Answer} (d : DrawsSheet input 
 
 -- A call answers and leaves what its contract says: with a buffer of another length,
 pub buffer_call : (input buffer : List ℕ) → ¬ (length buffer ≡ 64000) →
-    DrawsSheet input buffer buffer (answer.Refused (record { number = 21; line = 0 }))
+    DrawsSheet input buffer buffer (Err (record { refusal = why.Length; line = 0 }))
 buffer_call input buffer n =
     let j = sym (buffer_bad input buffer n) in record { answer = ap said j; leaves = ap (λ v. buffer_after v buffer) j }
 
 module _ (input buffer : List ℕ) (h : length buffer ≡ 64000) where
   -- for a refused sheet,
-  pub refused_call : (r : Refusal) → found (judge input) ≡ fault r.number r.line →
-      DrawsSheet input buffer buffer (answer.Refused r)
+  pub refused_call : (r : LineRefusal) → found (judge input) ≡ fault (number_of r.refusal) r.line →
+      DrawsSheet input buffer buffer (Err r)
   refused_call r e =
       let j = sym (is_bad_lem (judge input) e) ∙ sym (buffer_good input buffer h) in
       record { answer = ap said j; leaves = ap (λ v. buffer_after v buffer) j }
@@ -116,7 +118,7 @@ module _ (input buffer : List ℕ) (h : length buffer ≡ 64000) where
     pub drawn_call : (cube : List ℕ) {new : ℕ} → cube ≡ buffer_after (judge input) (take (volume s.side) buffer) →
         said (judge input) ≡ drew s.side s.curves new →
         DrawsSheet input buffer (cube ++ drop (volume s.side) buffer)
-        (answer.Drawn (record { side = s.side; curves = s.curves; new_cells = new }))
+        (Ok (record { side = s.side; curves = s.curves; new_cells = new }))
     drawn_call cube d n =
         let j = sym sheet.judged ∙ sym (buffer_good input buffer h) in
         record {

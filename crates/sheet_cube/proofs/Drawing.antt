@@ -8,7 +8,7 @@ use native.Mathlib.Omega.{arith}
 use lib.ListN.{length, take, drop, length-drop, drop_of_length-le, replicate, length-replicate}
 use lib.Seq.{drop-drop}
 use Rattle.decide.specs.Refusal.{accepted, first_that}
-use Rattle.decide.proofs.Refusal.{by_verdict}
+use Rattle.decide.proofs.FirstThat.{by_verdict}
 use Rattle.cube.specs.Cube.{volume}
 use Rattle.drawing.specs.Drawing.{drawing_of, drawn, in_turn}
 use Rattle.drawing.specs.NewCells.{unmarked_cells, new_in_turn}
@@ -23,7 +23,7 @@ use Rattle.sheet_lines.specs.Read.{first_line}
 use Rattle.sheet_cube.specs.Lines.{Found, sized, fault, found}
 use Rattle.sheet_cube.proofs.Judged.{Passes, passes, passes_side, side_refused, side_accepted, strokes_of, Left, good_first, good_all, good≢bad}
 use Rattle.sheet_cube.proofs.Judged.{by_emptiness, rest_lines, left_start, left_more, line_within}
-use Rattle.sheet_lines.proofs.Lines.{first_prefix}
+use Rattle.sheet_lines.proofs.Lines.{first_prefix, first_within}
 
 -- A sheet that is found to have a side and a number of curve lines is good, of that side and with so many strokes.
 pub record IsGood (j : Judged) (S n : ℕ) : Type 0 where
@@ -67,6 +67,7 @@ line_next i = omega arith
 
 -- A good sheet.
 pub record GoodSheet (input : List ℕ) (S n : ℕ) : Type 0 where
+  pub line_1 : 6 ≤ length input
   pub side_least : 2 ≤ S
   pub side_most : S ≤ 40
   pub judged : judge input ≡ good S (strokes_of input)
@@ -84,6 +85,7 @@ good_sheet input {S} {n} e =
     let side : R ≡ S = ap side_in all in
     let these : strokes_of input ≡ g.strokes = ap strokes_in all in
     record {
+      line_1 = omega (arith, (passes_side input a).whole, first_within input);
       side_least = rw (← side) (passes_side input a).least;
       side_most = rw (← side) (passes_side input a).most;
       judged = g.good ∙ ap (good S) (sym these);
@@ -166,6 +168,10 @@ module _ {input : List ℕ} {S n : ℕ} (sheet : GoodSheet input S n) where
     where
       fits : {a b : ℕ} → a ≡ b → a ≤ b
       fits e = omega (arith, e)
+
+  -- Where something is left of the input, a line is left to draw.
+  pub to_come : {i : ℕ} {cube : List ℕ} {new : ℕ} → DrawnSoFar input S i cube new → 0 < length (rest input i) → i < n
+  to_come {i} d there = omega (arith, d.left.count, sheet.count, ap length (rest_lines (rest input i) there))
 
   -- One more to draw.
   module _ {i : ℕ} (h : i < n) {cube : List ℕ} {new : ℕ} (d : DrawnSoFar input S i cube new) where

@@ -1,15 +1,15 @@
 -- The first 14207 bytes of an input decide its output: 6 bytes of line 1, 71 of each of 200 curve lines, and one more.
 use mathlib.Core.Path.{◌≡◌, refl, sym, ◌∙◌, ap}
 use mathlib.Core.Logic.{⊎_elim}
-use mathlib.Core.Bool.{Bool, true, false, cond}
-use mathlib.Core.List.{List, [], ◌∷◌}
+use mathlib.Core.Bool.{true}
+use mathlib.Core.List.{List}
 use Prim.Native.Nat.{ℕ, zero, suc, ◌+◌, ◌*◌, ◌≤◌, ◌<◌}
 use native.Mathlib.Omega.{arith}
-use lib.Dec.{eqb, ltb, lit<}
+use lib.Dec.{ltb, lit<}
 use lib.ListN.{length, take, drop, length-drop}
-use lib.Seq.{take_all, take-nil, take-add, drop_at, length-take-le}
+use lib.Seq.{take_all, take-add, drop_at, length-take-le}
 use Rattle.decide.specs.Refusal.{accepted, refused, first_that}
-use Rattle.decide.proofs.Refusal.{by_verdict}
+use Rattle.decide.proofs.FirstThat.{by_verdict}
 use Rattle.decide.proofs.Truth.{decided, less, not_less}
 use Rattle.sheet.proofs.Sheet.{too_many_lines}
 use borrow.Author.Tests.{ne_eqb}
@@ -17,20 +17,9 @@ use Rattle.sheet.specs.Line.{lines, is_wrong, number}
 use Rattle.sheet.specs.Sheet.{side_order, curve_order, Judged, good, bad, judge_curves, judge}
 use Rattle.sheet.specs.Printed.{printed, output}
 use Rattle.sheet_lines.specs.Read.{first_line}
+use Rattle.sheet_cube.proofs.Chunks.{first_take}
 use Rattle.sheet_cube.proofs.Verdicts.{side_wrong, curve_wrong}
 use Rattle.sheet_cube.proofs.Judged.{rest_lines, curve_refused, curve_accepted, passes, side_refused, side_accepted, strokes_of}
-
--- The first line of the first bytes.
-first_take : (m : ℕ) (rest : List ℕ) → first_line (take m rest) ≡ take m (first_line rest)
-unfolding first_line
-first_take zero rest = refl
-first_take (suc m) [] = refl
-first_take (suc m) (b ∷ bs) = ap (b ∷◌) (by_test (eqb b 10) (first_take m bs))
-  where
-    by_test : (t : Bool) → first_line (take m bs) ≡ take m (first_line bs) →
-        cond t [] (first_line (take m bs)) ≡ take m (cond t [] (first_line bs))
-    by_test true e = sym (take-nil m)
-    by_test false e = e
 
 drop_take : (n m : ℕ) (l : List ℕ) → n ≤ length l → drop n (take (n + m) l) ≡ take m (drop n l)
 drop_take n m l h = ap (drop n) (take-add n m l) ∙ drop_at (take n l) (take m (drop n l)) n (length-take-le n l h)

@@ -8,7 +8,7 @@ use lib.Dec.{eqb, ltb}
 use lib.ListN.{length, drop, length-drop, length-map, drop_of_length-le}
 use lib.Seq.{drop-drop}
 use Rattle.decide.specs.Refusal.{accepted, refused, first_that}
-use Rattle.decide.proofs.Refusal.{by_verdict, accepted_passes}
+use Rattle.decide.proofs.FirstThat.{by_verdict, accepted_passes}
 use Rattle.decide.proofs.Truth.{both_false, false_iff, false_of, equal, less, not_less}
 use Rattle.cube.proofs.Words.{side_in_lem}
 use Rattle.decide.specs.Some.{some_below}

@@ -8,16 +8,15 @@ use native.Mathlib.Omega.{arith}
 use lib.Dec.{ltb}
 use lib.ListN.{length, take}
 use Rattle.decide.specs.Refusal.{◌when◌, accepted, refused, first_that}
-use Rattle.decide.proofs.Refusal.{first_applies, first_passes, first_empty}
+use Rattle.decide.proofs.FirstThat.{first_applies, first_passes, first_empty}
 use Rattle.decide.proofs.Truth.{decided, false_of, true_of, less}
 use Rattle.cube.specs.Cube.{side_out}
 use Rattle.cube.proofs.Words.{side_in_lem}
 use Rattle.sheet.specs.Field.{is_bad}
 use Rattle.sheet.specs.Line.{field, number, is_wrong}
 use Rattle.sheet.specs.Sheet.{side_order, curve_order}
-use Rattle.sheet_lines.specs.Read.{read_field, first_line}
+use Rattle.sheet_lines.specs.Read.{first_line}
 use Rattle.sheet_lines.proofs.Lines.{first_prefix, line_length}
-use Rattle.sheet_lines.proofs.Fields.{good_read, good_below, bad_is}
 use Rattle.sheet_lines.proofs.Fits.{fields_good, field_bad}
 
 twice : (b : Bool) → not (not b) ≡ b
@@ -43,50 +42,41 @@ module _ (fields : ℕ) (rest : List ℕ) {r : Bool} (e : r ≡ not (is_wrong fi
 
 -- Line 1.
 module _ (line : List ℕ) where
-  abbrev read : ℕ
-  read = read_field (field line 0)
-
   pub side_wrong : is_wrong 1 line ≡ true → first_that (side_order line) ≡ refused 41
   unfolding side_order
   side_wrong w = first_applies _ _ _ w
 
   module _ (w : is_wrong 1 line ≡ false) where
-    pub side_bad : read ≡ 100000 → first_that (side_order line) ≡ refused 42
+    pub side_bad : is_bad (field line 0) ≡ true → first_that (side_order line) ≡ refused 42
     unfolding side_order
-    side_bad e =
-        first_passes _ _ _ w ∙ first_applies _ _ _ (field_bad line 1 0 (omega arith) ((bad_is (field line 0)).0 e))
+    side_bad e = first_passes _ _ _ w ∙ first_applies _ _ _ (field_bad line 1 0 (omega arith) e)
 
-    module _ (h : read < 100000) where
-      good : is_bad (field line 0) ≡ false
-      good = (good_below (field line 0)).0 h
-
-      pub side_read : read ≡ number line 0
-      side_read = good_read (field line 0) good
-
+    module _ (good : is_bad (field line 0) ≡ false) where
       -- 41 and 42 do not apply.
-      pub side_from_11 : first_that (side_order line) ≡
+      side_from_11 : first_that (side_order line) ≡
           first_that (11 when side_out (number line 0) ∷ 43 when ltb 40 (number line 0) ∷ [])
       unfolding side_order
       side_from_11 =
           first_passes _ _ _ w ∙
           first_passes _ _ _ ((fields_good line 1).1 (λ k l. let z : k ≡ 0 = omega arith in rw z good))
 
-      pub side_out_lem : ¬ ((2 ≤ read) × (read ≤ 64)) → first_that (side_order line) ≡ refused 11
+      pub side_out_lem : ¬ ((2 ≤ number line 0) × (number line 0 ≤ 64)) → first_that (side_order line) ≡ refused 11
       side_out_lem n =
           side_from_11 ∙
-          first_applies _ _ _ (true_of _ (⊎_elim (λ t. t) (λ f. absurd (n (rw side_read ((side_in_lem (number line 0)).0 f))))
+          first_applies _ _ _ (true_of _ (⊎_elim (λ t. t) (λ f. absurd (n ((side_in_lem (number line 0)).0 f)))
           (decided (side_out (number line 0)))))
 
-      side_passes : 2 ≤ read → read ≤ 64 → first_that (side_order line) ≡ first_that (43 when ltb 40 (number line 0) ∷ [])
-      side_passes a b = side_from_11 ∙ first_passes _ _ _ (false_of _ ((side_in_lem (number line 0)).1 (rw (← side_read) (a, b))))
+      side_passes : 2 ≤ number line 0 → number line 0 ≤ 64 →
+          first_that (side_order line) ≡ first_that (43 when ltb 40 (number line 0) ∷ [])
+      side_passes a b = side_from_11 ∙ first_passes _ _ _ (false_of _ ((side_in_lem (number line 0)).1 (a, b)))
 
-      pub side_large : 2 ≤ read → read ≤ 64 → 40 < read → first_that (side_order line) ≡ refused 43
-      side_large a b c = side_passes a b ∙ first_applies _ _ _ (true_of _ ((less 40 (number line 0)).1 (rw (← side_read) c)))
+      pub side_large : number line 0 ≤ 64 → 40 < number line 0 → first_that (side_order line) ≡ refused 43
+      side_large b c = side_passes (omega arith) b ∙ first_applies _ _ _ (true_of _ ((less 40 (number line 0)).1 c))
 
-      pub side_good : 2 ≤ read → read ≤ 40 → first_that (side_order line) ≡ accepted
+      pub side_good : 2 ≤ number line 0 → number line 0 ≤ 40 → first_that (side_order line) ≡ accepted
       side_good a b =
           side_passes a (omega arith) ∙
-          first_passes _ _ _ (false_of _ (λ t. omega (arith, b, side_read, (less 40 (number line 0)).0 t))) ∙ first_empty
+          first_passes _ _ _ (false_of _ (λ t. omega (arith, b, (less 40 (number line 0)).0 t))) ∙ first_empty
 
 -- A side that a sheet has is in range.
 pub side_there : {S : ℕ} → 2 ≤ S → S ≤ 40 → side_out S ≡ false

@@ -1,5 +1,5 @@
 // The drawing of a good sheet.
-ghost use Rattle.std.specs.Prelude.{◌≡◌, ◌<◌, ◌*◌, length, replicate};
+ghost use Rattle.std.specs.Prelude.{◌≡◌, length};
 ghost use Rattle.cube.specs.Cube.{volume};
 ghost use Rattle.sheet.specs.Sheet.{judge};
 ghost use Rattle.sheet.specs.Call.{drew, said, buffer_after};
@@ -15,24 +15,13 @@ pub(crate) fn draw_lines(input: &[u8], size: Size, cube: &mut [u8]) -> u32
     ensures input_value_2 { said (judge input.now) ≡ drew size.side size.curves result }
     ensures cube_after { cube.new ≡ buffer_after (judge input.now) cube.old }
 {
-    clear(cube);
-    let curves = size.curves as usize;
+    cube.fill(0);
     let mut new_cells = 0;
-    for k in 0..curves {
-        let at = 6 + 71 * k;
-        let end = at + 71;
-        let read = read_curve(&input[at..end]);
-        new_cells += curve::samples::mark_samples(size.side, read.curve, cube);
+    for line in input[6..].chunks_exact(71) {
+        let Some(curve) = read_curve(line) else {
+            unreachable!()
+        };
+        new_cells += curve::samples::mark_samples(size.side, curve, cube);
     }
     new_cells
-}
-
-fn clear(cube: &mut [u8])
-    ensures { cube.new ≡ replicate (length cube.old) 0 }
-{
-    let mut i = 0;
-    while i < cube.len() {
-        cube[i] = 0;
-        i += 1;
-    }
 }

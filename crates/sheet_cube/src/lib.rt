@@ -9,9 +9,9 @@ ghost use Rattle.std.specs.Prelude.{◌≡◌, ◌≤◌};
 ghost use Rattle.cube.specs.Cube.{volume};
 ghost use Rattle.sheet_cube.specs.Answer.{DrawsSheet};
 
-use crate::judge::Judgement;
+use decide::Refusal;
 
-// An accepted sheet: the side of its cube, the number of its curve lines, and that of the cells that they marked.
+/// An accepted sheet: the side of its cube, the number of its curve lines, and that of the cells that they marked.
 #[derive(Clone, Copy)]
 pub struct Sheet {
     pub side: u32,
@@ -19,43 +19,32 @@ pub struct Sheet {
     pub new_cells: u32,
 }
 
-// A refusal's number and the line that is refused.
+/// Why a sheet is refused, and the line that is refused: 0 where the buffer is.
 #[derive(Clone, Copy)]
-pub struct Refusal {
-    pub number: u32,
+pub struct LineRefusal {
+    pub refusal: Refusal,
     pub line: u32,
-}
-
-// What a sheet call answers.
-#[derive(Clone, Copy)]
-pub enum Answer {
-    Drawn(Sheet),
-    Refused(Refusal),
 }
 
 // Draws a sheet into the first S × S × S bytes of the buffer, once every line is judged. Refused: 21 with line 0, and
 // the numbers of lines.
-pub fn draw_sheet(input: &[u8], buffer: &mut [u8]) -> Answer
+pub fn draw_sheet(input: &[u8], buffer: &mut [u8]) -> Result<Sheet, LineRefusal>
     ensures { DrawsSheet input.now buffer.old buffer.new result }
 {
     if buffer.len() != 64000 {
-        return Answer::Refused(Refusal {
-            number: 21,
+        return Err(LineRefusal {
+            refusal: Refusal::Length,
             line: 0,
         });
     }
-    match judge::judge_sheet(input) {
-        Judgement::Refused(refusal) => Answer::Refused(refusal),
-        Judgement::Good(size) => {
-            let cells = cells(size.side);
-            let new_cells = draw::draw_lines(input, size, &mut buffer[..cells]);
-            Answer::Drawn(Sheet {
-                side: size.side,
-                curves: size.curves,
-                new_cells,
-            })
-        }
-    }
+    let size = judge::judge_sheet(input)?;
+    let cells = cells(size.side);
+    let new_cells = draw::draw_lines(input, size, &mut buffer[..cells]);
+    Ok(Sheet {
+        side: size.side,
+        curves: size.curves,
+        new_cells,
+    })
 }
 
 // The number of cells of a sheet's cube, the bytes that it takes of the buffer.

@@ -1,18 +1,36 @@
 -- The digits of a field byte by byte, and what is read of a good and of a bad field.
 use mathlib.Core.Path.{◌≡◌, refl, sym, ◌∙◌, ap}
-use mathlib.Core.Logic.{◌↔◌}
 use mathlib.Core.Bool.{Bool, true, false, cond, not, ◌&&◌, and-true, and-eq-true_iff}
 use mathlib.Core.List.{List, [], ◌∷◌}
 use Prim.Native.Nat.{ℕ, suc, ◌+◌, ◌-◌, ◌*◌, ◌^◌, ◌≤◌, ◌<◌}
 use native.Mathlib.Nat.{pow-suc, pow-le-pow_right}
-use native.Mathlib.Numerals.{add-one}
+use native.Mathlib.Numerals.{add-one, one-add}
 use native.Mathlib.Omega.{arith}
 use lib.Dec.{eqb, leb, lit≤}
 use lib.ListN.{length, get_or, drop, drop_of_length-le}
 use lib.Seq.{drop-cons}
 use borrow.Author.Tests.{eq-eqb, ne_eqb, leb-true, eqb-true}
+use Rattle.std.specs.Prelude.{Some, None, is_none, ◌==◌}
+use Rattle.std.specs.List.{list_all, prefix_len}
+use Rattle.std.specs.Char.{is_ascii_digit}
 use Rattle.sheet.specs.Field.{is_digit, are_digits, after_blanks, is_number, digits_of, is_bad, decimal, value_of}
 use Rattle.sheet_lines.specs.Read.{read_field}
+
+-- What stands after the blanks.
+pub after_prefix : (l : List ℕ) → drop (prefix_len (λ b. b == 32) l) l ≡ after_blanks l
+unfolding after_blanks
+after_prefix [] = refl
+after_prefix (b ∷ bs) = by_test (eqb b 32) _ (after_prefix bs)
+  where
+    by_test : (t : Bool) (n : ℕ) → drop n bs ≡ after_blanks bs → drop (cond t (1 + n) 0) (b ∷ bs) ≡ cond t (after_blanks bs) (b ∷ bs)
+    by_test true n e = ap (λ m. drop m (b ∷ bs)) (one-add n) ∙ e
+    by_test false n e = refl
+
+-- Every byte is a digit, by std's word for one.
+pub all_digits : (l : List ℕ) → list_all is_ascii_digit l ≡ are_digits l
+unfolding are_digits is_digit
+all_digits [] = refl
+all_digits (b ∷ bs) = ap (is_ascii_digit b &&◌) (all_digits bs)
 
 -- What is left of a list before its end is an element and what is left after it.
 left_at : (l : List ℕ) (i : ℕ) → i < length l → drop i l ≡ get_or l i 0 ∷ drop (i + 1) l
@@ -24,24 +42,11 @@ unfolding is_digit
 digit_bounds d e = let b = (and-eq-true_iff (leb 48 d) (leb d 57)).0 e in (leb-true 48 d b.0, leb-true d 57 b.1)
 
 module _ (l : List ℕ) (i : ℕ) (h : i < length l) where
-  -- A blank at byte i is passed over,
-  pub blank_passes : get_or l i 0 ≡ 32 → after_blanks (drop i l) ≡ after_blanks (drop (i + 1) l)
-  unfolding after_blanks
-  blank_passes e = ap after_blanks (left_at l i h) ∙ rw (eq-eqb (get_or l i 0) 32 e)
-
-  -- and any other byte there ends the blanks.
-  pub byte_stays : (get_or l i 0 ≡ 32 → ⊥) → after_blanks (drop i l) ≡ drop i l
-  unfolding after_blanks
-  byte_stays n = ap after_blanks (left_at l i h) ∙ rw (ne_eqb (get_or l i 0) 32 n, ← left_at l i h)
-
   -- What stands from byte i on is digits where that byte is one and the later ones are.
-  pub byte_tested : are_digits (drop i l) ≡ (is_digit (get_or l i 0) && are_digits (drop (i + 1) l))
-  unfolding are_digits
-  byte_tested = ap are_digits (left_at l i h)
-
   pub next_digit : are_digits (drop i l) ≡ true → (48 ≤ get_or l i 0) × (are_digits (drop (i + 1) l) ≡ true)
+  unfolding are_digits
   next_digit e =
-      let b = (and-eq-true_iff (is_digit (get_or l i 0)) (are_digits (drop (i + 1) l))).0 (sym byte_tested ∙ e) in
+      let b = (and-eq-true_iff (is_digit (get_or l i 0)) (are_digits (drop (i + 1) l))).0 (sym (ap are_digits (left_at l i h)) ∙ e) in
       ((digit_bounds (get_or l i 0) b.0).0, b.1)
 
   -- A digit is read after the number before it.
@@ -49,19 +54,10 @@ module _ (l : List ℕ) (i : ℕ) (h : i < length l) where
   unfolding decimal
   digit_read n = ap (decimal n) (left_at l i h)
 
--- At the end no byte is left: no blank, no byte that is no digit, and nothing to read.
-module _ (l : List ℕ) (i : ℕ) (h : length l ≤ i) where
-  pub blanks_end : after_blanks (drop i l) ≡ drop i l
-  unfolding after_blanks
-  blanks_end = rw (drop_of_length-le l h)
-
-  pub digits_end : are_digits (drop i l) ≡ true
-  unfolding are_digits
-  digits_end = rw (drop_of_length-le l h)
-
-  pub read_end : (n : ℕ) → decimal n (drop i l) ≡ n
-  unfolding decimal
-  read_end n = rw (drop_of_length-le l h)
+-- At the end nothing is left to read.
+pub read_end : (l : List ℕ) (i : ℕ) → length l ≤ i → (n : ℕ) → decimal n (drop i l) ≡ n
+unfolding decimal
+read_end l i h n = rw (drop_of_length-le l h)
 
 -- No byte is no number.
 pub no_digit : (l : List ℕ) → length l ≡ 0 → is_number l ≡ false
@@ -146,20 +142,40 @@ few_below l h e =
     omega arith
 
 module _ (f : List ℕ) where
-  -- No field holds 100000.
-  pub value_below : value_of f < 100000
-  unfolding value_of
-  value_below = let d = digits_few f in few_below (digits_of f) d.0 d.1
-
-  -- A good field is read as its value.
-  pub good_read : is_bad f ≡ false → read_field f ≡ value_of f
+  -- A good field is read as its value,
+  pub good_read : is_bad f ≡ false → read_field f ≡ Some (value_of f)
   unfolding read_field
   good_read e = rw e
 
-  -- A bad field is read as 100000.
-  pub bad_read : is_bad f ≡ true → read_field f ≡ 100000
+  -- and a bad one is not read.
+  pub bad_read : is_bad f ≡ true → read_field f ≡ None
   unfolding read_field
   bad_read e = rw e
+
+  -- So what is read shows whether the field is good.
+  pub read_good : {n : ℕ} → read_field f ≡ Some n → (is_bad f ≡ false) × (n ≡ value_of f)
+  unfolding read_field
+  read_good {n} = by_test (is_bad f)
+    where
+      by_test : (t : Bool) → cond t None (Some (value_of f)) ≡ Some n → (t ≡ false) × (n ≡ value_of f)
+      by_test true e = cc
+      by_test false e = (refl, cc)
+
+  pub not_read : read_field f ≡ None → is_bad f ≡ true
+  unfolding read_field
+  not_read = by_test (is_bad f)
+    where
+      by_test : (t : Bool) → cond t None (Some (value_of f)) ≡ None → t ≡ true
+      by_test true e = refl
+      by_test false e = cc
+
+  pub unread : is_none (read_field f) ≡ is_bad f
+  unfolding read_field
+  unread = by_test (is_bad f)
+    where
+      by_test : (t : Bool) → is_none (cond t None (Some (value_of f))) ≡ t
+      by_test true = refl
+      by_test false = refl
 
   -- A field is bad exactly where it hands back no digit.
   pub no_digits_bad : length (digits_of f) ≡ 0 → is_bad f ≡ true
@@ -169,24 +185,3 @@ module _ (f : List ℕ) where
   pub digits_good : (length (digits_of f) ≡ 0 → ⊥) → is_bad f ≡ false
   unfolding is_bad
   digits_good n = ne_eqb (length (digits_of f)) 0 n
-
-  by_badness : (P : Type 0) → (is_bad f ≡ true → P) → (is_bad f ≡ false → P) → P
-  by_badness P bad good = by_test (is_bad f) bad good
-    where
-      by_test : (t : Bool) → (t ≡ true → P) → (t ≡ false → P) → P
-      by_test true p q = p refl
-      by_test false p q = q refl
-
-  pub read_most : read_field f ≤ 100000
-  read_most = by_badness (read_field f ≤ 100000) (λ e. omega (arith, bad_read e)) (λ e. omega (arith, good_read e, value_below))
-
-  -- What is read shows whether the field is good.
-  pub good_below : (read_field f < 100000) ↔ (is_bad f ≡ false)
-  good_below = (
-    λ h. by_badness (is_bad f ≡ false) (λ e. absurd (omega (arith, bad_read e))) (λ e. e),
-    λ e. rw (good_read e) value_below,
-  )
-
-  pub bad_is : (read_field f ≡ 100000) ↔ (is_bad f ≡ true)
-  bad_is =
-      (λ h. by_badness (is_bad f ≡ true) (λ e. e) (λ e. absurd (omega (arith, good_below.1 e))), bad_read)

@@ -1,6 +1,6 @@
 -- An input's first line: the lines are it and those of what is left, and it runs to the first line feed.
 use mathlib.Core.Path.{◌≡◌, refl, sym, ◌∙◌, ap}
-use mathlib.Core.Bool.{Bool, true, false, cond, not, ◌&&◌, and-false, and-eq-true_iff}
+use mathlib.Core.Bool.{Bool, true, false, cond, not, ◌&&◌, ◌||◌, and-false, and-eq-true_iff}
 use mathlib.Core.List.{List, [], ◌∷◌, ◌++◌}
 use Prim.Native.Nat.{ℕ, zero, suc, ◌+◌, ◌*◌, ◌≤◌, ◌<◌}
 use native.Mathlib.Omega.{arith}
@@ -8,6 +8,7 @@ use lib.Dec.{eqb, lit≤}
 use lib.ListN.{length, get_or, take, drop, length-append}
 use lib.Seq.{drop-cons, get_or_at, length-take-le}
 use borrow.Author.Tests.{eq-eqb, ne_eqb, eqb-true, not-false}
+use Rattle.std.specs.List.{list_any}
 use Rattle.sheet.specs.Line.{before, lines, is_wrong}
 use Rattle.sheet_lines.specs.Read.{first_line}
 
@@ -49,26 +50,35 @@ first_within (b ∷ bs) = by_test (eqb b 10) (first_line bs) (first_within bs)
     by_test true l later = omega arith
     by_test false l later = omega arith
 
--- It ends no later than at any line feed.
-feed_ends : (rest : List ℕ) (k : ℕ) → k < length rest → get_or rest k 0 ≡ 10 → length (first_line rest) ≤ suc k
-unfolding first_line
-feed_ends [] k h e = absurd (omega arith)
-feed_ends (b ∷ bs) zero h e = rw (eq-eqb b 10 e) (lit≤ tt)
-feed_ends (b ∷ bs) (suc k) h e = by_test (eqb b 10) (first_line bs) (feed_ends bs k (omega arith) e)
-  where
-    by_test : (t : Bool) (l : List ℕ) → length l ≤ suc k → suc (length (cond t [] l)) ≤ suc (suc k)
-    by_test true l later = omega arith
-    by_test false l later = omega arith
+-- Some byte is a line feed.
+abbrev pub feeds : List ℕ → Bool
+feeds l = list_any (λ b. eqb b 10) l
 
--- It goes on over bytes that are no line feed.
-no_feed : (rest : List ℕ) (n : ℕ) → n < length rest → ((k : ℕ) → k < n → get_or rest k 0 ≡ 10 → ⊥) →
+-- It ends within bytes that have a line feed among them,
+feed_ends : (n : ℕ) (rest : List ℕ) → feeds (take n rest) ≡ true → length (first_line rest) ≤ n
+unfolding first_line
+feed_ends zero rest e = cc
+feed_ends (suc n) [] e = omega arith
+feed_ends (suc n) (b ∷ bs) e = by_test (eqb b 10) (first_line bs) e (feed_ends n bs)
+  where
+    by_test : (t : Bool) (l : List ℕ) → (t || feeds (take n bs)) ≡ true → (feeds (take n bs) ≡ true → length l ≤ n) →
+        suc (length (cond t [] l)) ≤ suc n
+    by_test true l f later = omega arith
+    by_test false l f later = omega (arith, later f)
+
+-- and goes on over bytes that have none.
+no_feed : (n : ℕ) (rest : List ℕ) → n < length rest → feeds (take n rest) ≡ false →
     first_line rest ≡ take n rest ++ first_line (drop n rest)
 unfolding first_line
-no_feed [] n h none = absurd (omega arith)
-no_feed (b ∷ bs) zero h none = refl
-no_feed (b ∷ bs) (suc n) h none =
-    rw (ne_eqb b 10 (none 0 (omega arith)))
-    (ap (b ∷◌) (no_feed bs n (omega arith) (λ k l. none (suc k) (omega arith))))
+no_feed zero rest h e = refl
+no_feed (suc n) [] h e = absurd (omega arith)
+no_feed (suc n) (b ∷ bs) h e = ap (b ∷◌) (by_test (eqb b 10) (first_line bs) e (no_feed n bs (omega arith)))
+  where
+    by_test : (t : Bool) (l : List ℕ) → (t || feeds (take n bs)) ≡ false →
+        (feeds (take n bs) ≡ false → l ≡ take n bs ++ first_line (drop n bs)) →
+        cond t [] l ≡ take n bs ++ first_line (drop n bs)
+    by_test true l f later = cc
+    by_test false l f later = later f
 
 module _ (fields : ℕ) (line : List ℕ) where
   -- A line that is not wrong has 5 bytes a field and a line feed.
@@ -100,15 +110,14 @@ module _ (fields : ℕ) (rest : List ℕ) where
   short_rest h = short_wrong fields (first_line rest) (omega (arith, first_within rest))
 
   -- Nor does one with a line feed among their bytes.
-  pub broken_line : (k : ℕ) → k < length rest → k < 5 * fields → get_or rest k 0 ≡ 10 →
-      is_wrong fields (first_line rest) ≡ true
-  broken_line k h l e = short_wrong fields (first_line rest) (omega (arith, feed_ends rest k h e))
+  pub broken_line : feeds (take (5 * fields) rest) ≡ true → is_wrong fields (first_line rest) ≡ true
+  broken_line e = short_wrong fields (first_line rest) (feed_ends (5 * fields) rest e)
 
   -- With none among them, the byte after them decides.
-  pub byte_decides : 5 * fields < length rest → ((k : ℕ) → k < 5 * fields → get_or rest k 0 ≡ 10 → ⊥) →
+  pub byte_decides : 5 * fields < length rest → feeds (take (5 * fields) rest) ≡ false →
       is_wrong fields (first_line rest) ≡ not (eqb (get_or rest (5 * fields) 0) 10)
   byte_decides h none =
       let n = 5 * fields in
-      let whole = no_feed rest n h none ∙ ap (λ l. take n rest ++ first_line l) (drop-cons rest n 0 h) in
+      let whole = no_feed n rest h none ∙ ap (λ l. take n rest ++ first_line l) (drop-cons rest n 0 h) in
       ap (is_wrong fields) whole ∙
       by_byte fields (take n rest) (get_or rest n 0) (drop (suc n) rest) (length-take-le n rest (omega arith))

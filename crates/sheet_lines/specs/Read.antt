@@ -1,16 +1,16 @@
 -- What is read of a field, of the input's next line and of a curve line.
-use Rattle.std.specs.Prelude.{Bool, true, false, cond, not, ◌&&◌, List, [], ◌∷◌, ℕ, ◌+◌, ltb, eqb, replicate}
+use Rattle.std.specs.Prelude.{Bool, cond, not, ◌&&◌, List, [], ◌∷◌, ℕ, ◌+◌, ltb, eqb, Option, Some, None}
 use Rattle.decide.specs.Some.{some_below}
 use Rattle.drawing.specs.declared.Choice.TheVariants.{Over}
 use Rattle.drawing.specs.Refusals.{count_out}
+use Rattle.curve.specs.declared.Curve.{Curve}
 use Rattle.sheet.specs.Field.{is_bad, value_of}
 use Rattle.sheet.specs.Line.{number, some_bad}
 use Rattle.sheet.specs.Sheet.{mark_out, stroke_of}
-use Rattle.sheet_lines.specs.declared.line.Read.{Read}
 
--- The value of a field, and 100000, which no field holds, for a bad one.
-unfoldable pub read_field : List ℕ → ℕ
-read_field f = cond (is_bad f) 100000 (value_of f)
+-- The value of a good field.
+unfoldable pub read_field : List ℕ → Option ℕ
+read_field f = cond (is_bad f) None (Some (value_of f))
 
 -- The first line of what is left of an input: up to and including its line feed, or to the end.
 unfoldable pub first_line : (rest : List ℕ) → List ℕ
@@ -21,18 +21,13 @@ first_line (b ∷ bs) = b ∷ cond (eqb b 10) [] (first_line bs)
 unfoldable pub fits : (line : List ℕ) → Bool
 fits l = not (some_bad 14 l) && not (mark_out (number l 0)) && not (some_below 12 (λ k. ltb 255 (number l (k + 2))))
 
--- What a curve line that fits is read as: its curve, which goes over. One that does not is read as a record of zeros.
-abbrev pub fit_read : (line : List ℕ) → Read
-fit_read l = let s = stroke_of l in record {
-  curve = record { points = s.points; steps = s.steps; mark = s.mark; choice = Over };
-  fits = true;
-}
+-- What a curve line that fits is read as: its curve, which goes over.
+abbrev pub fit_read : (line : List ℕ) → Curve
+fit_read l = let s = stroke_of l in record { points = s.points; steps = s.steps; mark = s.mark; choice = Over }
 
-abbrev pub unfit_read : Read
-unfit_read = record { curve = record { points = replicate 12 0; steps = 0; mark = 0; choice = Over }; fits = false }
-
-unfoldable pub read_line : (line : List ℕ) → Read
-read_line l = cond (fits l) (fit_read l) unfit_read
+-- One that does not is read as none.
+unfoldable pub read_line : (line : List ℕ) → Option Curve
+read_line l = cond (fits l) (Some (fit_read l)) None
 
 -- The first that applies of 42, a bad field, 12, the mark, and 13, the step count, and otherwise 14.
 abbrev pub first_of : (bad markWrong countWrong : Bool) → ℕ

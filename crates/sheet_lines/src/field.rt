@@ -1,9 +1,11 @@
 // A field of a stroke sheet: its digits and its value.
-ghost use Rattle.std.specs.Prelude.{◌≡◌, true, ◌≤◌, length, drop};
-ghost use Rattle.sheet.specs.Field.{is_digit, are_digits, after_blanks, is_number, digits_of, decimal};
+ghost use Rattle.std.specs.Prelude.{◌≡◌, true, ◌≤◌, ◌==◌, length};
+ghost use Rattle.std.specs.Char.{is_ascii_digit};
+ghost use Rattle.std.specs.List.{list_all, prefix_len};
+ghost use Rattle.sheet.specs.Field.{are_digits, is_number, digits_of, decimal};
 ghost use Rattle.sheet_lines.specs.Read.{read_field};
 
-// The digits of a field, as the part of it after the blanks, and the empty part for a bad field.
+// The digits of a field, as the part of it after the blanks, and the empty part for a bad field, as document 01 asks.
 pub fn digits(field: &[u8]) -> &[u8]
     ensures { result.now ≡ digits_of field.now }
 {
@@ -17,54 +19,37 @@ pub fn digits(field: &[u8]) -> &[u8]
 
 // How many blanks a field begins with.
 fn blanks(field: &[u8]) -> usize
-    ensures upper_bound { result ≤ length field.now }
-    ensures field_value { drop result field.now ≡ after_blanks field.now }
+    ensures bound { result ≤ length field.now }
+    ensures value { result ≡ prefix_len (λ b. b == 32) field.now }
 {
-    let mut i = 0;
-    while i < field.len() {
-        if field[i] != b' ' {
-            return i;
-        }
-        i += 1;
-    }
-    i
+    field.iter().take_while(|&&b| b == b' ').count()
 }
 
 // Digits, at least one, and no leading zero but a lone 0.
 fn is_number(part: &[u8]) -> bool
     ensures { result ≡ is_number part.now }
 {
-    if part.len() == 0 {
-        return false;
-    }
     if 1 < part.len() && part[0] == b'0' {
         return false;
     }
-    let mut i = 0;
-    while i < part.len() {
-        if !is_digit(part[i]) {
-            return false;
-        }
-        i += 1;
-    }
-    true
+    !part.is_empty() && are_digits(part)
 }
 
-fn is_digit(b: u8) -> bool
-    ensures { result ≡ is_digit b }
+// Every byte is a digit.
+fn are_digits(part: &[u8]) -> bool
+    ensures { result ≡ list_all is_ascii_digit part.now }
 {
-    b'0' <= b && b <= b'9'
+    part.iter().all(u8::is_ascii_digit)
 }
 
-// The value of a field, and 100000, which no field holds, for a bad one.
-pub fn number(field: &[u8]) -> u32
+// The value of a field, if it is good.
+pub fn number(field: &[u8]) -> Option<u32>
     ensures { result ≡ read_field field.now }
 {
-    let part = digits(field);
-    if part.len() == 0 {
-        return 100000;
+    match digits(field) {
+        [] => None,
+        part => Some(value(part)),
     }
-    value(part)
 }
 
 // The number that at most five digits stand for.
@@ -74,16 +59,8 @@ fn value(digits: &[u8]) -> u32
     ensures { result ≡ decimal 0 digits.now }
 {
     let mut n = 0;
-    let mut i = 0;
-    while i < digits.len() {
-        n = 10 * n + wide(digits[i] - b'0');
-        i += 1;
+    for &digit in digits {
+        n = 10 * n + u32::from(digit - b'0');
     }
     n
-}
-
-fn wide(b: u8) -> u32
-    ensures { result ≡ b }
-{
-    b as u32
 }

@@ -7,6 +7,7 @@ use native.Mathlib.Nat.{mul-le-mul}
 use native.Mathlib.Omega.{arith}
 use lib.ListN.{length, take, drop, length-append}
 use lib.Seq.{take_at, length-take-le}
+use Rattle.std.specs.Prelude.{Result, Ok, Err}
 use Rattle.cube.specs.Cube.{volume}
 use Rattle.sheet.specs.Sheet.{Stroke, Judged, good, bad, judge}
 use Rattle.sheet.specs.Printed.{cube_of, refusal_line}
@@ -15,8 +16,6 @@ use Rattle.sheet.proofs.Printed.{length_refusal_line}
 use Rattle.sheet_cube.specs.Lines.{found}
 use Rattle.sheet.proofs.NewCells.{length_cube}
 use Rattle.sheet_cube.proofs.Drawing.{good_sheet}
-use Rattle.sheet_program.specs.declared.Drawing.{Drawing}
-use Rattle.sheet_program.specs.declared.Drawing.TheVariants.{Cube, Line}
 use Rattle.sheet_program.specs.Draws.{drawing_of, text_after, DrawsOrRefuses}
 
 -- A drawn sheet.
@@ -38,17 +37,17 @@ pub record Refused (input textNow : List ℕ) (bytes : ℕ) : Type 0 where
   pub holds : take bytes textNow ≡ refusal_line number line
 
 -- What an answer says of what is judged.
-is_good_lem : (j : Judged) {S : ℕ} → drawing_of j ≡ Cube S → (strokes : List Stroke) × (j ≡ good S strokes)
+is_good_lem : (j : Judged) {S : ℕ} → drawing_of j ≡ Ok S → (strokes : List Stroke) × (j ≡ good S strokes)
 is_good_lem (good R strokes) e = (strokes, cc)
 is_good_lem (bad n k) e = let z : ◌≡◌ {A = ℕ} 0 1 = cc in absurd (omega arith)
 
-is_bad_lem : (j : Judged) {b : ℕ} → drawing_of j ≡ Line b → (n : ℕ) × (k : ℕ) × (j ≡ bad n k) × (b ≡ 18)
+is_bad_lem : (j : Judged) {b : ℕ} → drawing_of j ≡ Err b → (n : ℕ) × (k : ℕ) × (j ≡ bad n k) × (b ≡ 18)
 is_bad_lem (good S strokes) e = let z : ◌≡◌ {A = ℕ} 0 1 = cc in absurd (omega arith)
 is_bad_lem (bad n k) e = (n, k, refl, cc)
 
-module _ {input buffer bufferNow text textNow : List ℕ} {r : Drawing}
+module _ {input buffer bufferNow text textNow : List ℕ} {r : Result ℕ ℕ}
     (d : DrawsOrRefuses input buffer bufferNow text textNow r) where
-  pub drawn : {S : ℕ} → r ≡ Cube S → Drawn input bufferNow S
+  pub drawn : {S : ℕ} → r ≡ Ok S → Drawn input bufferNow S
   drawn {S} e =
       let g = is_good_lem (judge input) (sym d.answer ∙ e) in
       let sheet = good_sheet input (ap found g.1) in
@@ -66,7 +65,7 @@ module _ {input buffer bufferNow text textNow : List ℕ} {r : Drawing}
         cube = rw holds (take_at (cube_of S g.0) (drop (volume S) buffer) (volume S) size);
       }
 
-  pub refused : {bytes : ℕ} → r ≡ Line bytes → Refused input textNow bytes
+  pub refused : {bytes : ℕ} → r ≡ Err bytes → Refused input textNow bytes
   refused {bytes} e =
       let b = is_bad_lem (judge input) (sym d.answer ∙ e) in
       let text_line : List ℕ = refusal_line b.0 b.1 in

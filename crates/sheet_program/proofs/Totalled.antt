@@ -2,21 +2,17 @@
 use mathlib.Core.Path.{◌≡◌, sym, ◌∙◌, ap, ap₂}
 use mathlib.Core.List.{List}
 use Prim.Native.Nat.{ℕ, ◌≤◌}
-use native.Mathlib.Nat.{zero-add, le_trans}
 use native.Mathlib.Omega.{arith}
 use lib.ListN.{length, take, length-append}
 use lib.Seq.{length-take-le}
+use Rattle.std.specs.Prelude.{Result, Ok, Err}
 use Rattle.cube.specs.Cube.{volume}
 use Rattle.sheet.specs.Printed.{refusal_line}
 use Rattle.sheet.specs.Part.{over}
 use Rattle.sheet_cube.proofs.Early.{judge_early}
 use Rattle.sheet_text.specs.Puts.{Puts}
-use Rattle.sheet_text.proofs.Puts.{puts_over}
 use Rattle.totals.specs.Totals.{totals}
 use Rattle.totals.specs.Printed.{totals_printed, totals_output}
-use Rattle.totals.proofs.Lines.{length_totals_at_most}
-use Rattle.sheet_program.specs.declared.Drawing.{Drawing}
-use Rattle.sheet_program.specs.declared.Drawing.TheVariants.{Cube, Line}
 use Rattle.sheet_program.specs.Draws.{text_after, DrawsOrRefuses}
 use Rattle.sheet_program.specs.Totals.{WritesTotals}
 use Rattle.sheet_program.proofs.Drawn.{Drawn, Refused, drawn, refused}
@@ -31,25 +27,23 @@ refused_output : {input textNow : List ℕ} {bytes : ℕ} (r : Refused input tex
 unfolding totals_output
 refused_output r = ap totals_printed (sym r.judged)
 
-module _ {input buffer bufferNow text textNow : List ℕ} {r : Drawing}
+module _ {input buffer bufferNow text textNow : List ℕ} {r : Result ℕ ℕ}
     (d : DrawsOrRefuses input buffer bufferNow text textNow r) where
   -- A drawn sheet leaves the text as it was.
-  pub text_kept : {S : ℕ} → r ≡ Cube S → textNow ≡ text
+  pub text_kept : {S : ℕ} → r ≡ Ok S → textNow ≡ text
   text_kept e = d.writes ∙ ap (λ j. text_after j text) (drawn d e).judged
 
-  pub totalled : {S n : ℕ} {after : List ℕ} → r ≡ Cube S → 13056 ≤ length text →
-      Puts (totals S (take (volume S) bufferNow)) 0 textNow after n → WritesTotals input buffer bufferNow text after n
-  totalled {S} e room p =
+  pub totalled : {S n : ℕ} {after : List ℕ} → r ≡ Ok S →
+      Puts (totals S (take (volume S) bufferNow)) textNow after n → WritesTotals input buffer bufferNow text after n
+  totalled {S} e p =
       let out : totals S (take (volume S) bufferNow) ≡ totals_output input = drawn_output (drawn d e) in
-      let fits : length (totals S (take (volume S) bufferNow)) ≤ length textNow =
-      rw (text_kept e) (le_trans (length_totals_at_most S (take (volume S) bufferNow)) room) in
       record {
-        answer = p.goes_on ∙ zero-add _ ∙ ap length out;
+        answer = p.counts ∙ ap length out;
         leaves = d.leaves;
-        writes = puts_over p fits ∙ ap₂ over out (text_kept e);
+        writes = p.holds ∙ ap₂ over out (text_kept e);
       }
 
-  pub line_told : {bytes : ℕ} → r ≡ Line bytes → WritesTotals input buffer bufferNow text textNow bytes
+  pub line_told : {bytes : ℕ} → r ≡ Err bytes → WritesTotals input buffer bufferNow text textNow bytes
   line_told {bytes} e =
       let b = refused d e in
       record {

@@ -4,72 +4,67 @@
 
 mod print;
 
-ghost use Rattle.std.specs.Prelude.{◌≡◌, ◌≤◌, length};
+ghost use Rattle.std.specs.Prelude.{◌≤◌, length};
 ghost use Rattle.sheet_program.specs.Draws.{DrawsOrRefuses};
 ghost use Rattle.sheet_program.specs.Totals.{WritesTotals};
 
-pub use print::print_sheet;
-use sheet_cube::Answer;
-use std::io::{Stderr, Stdin, Stdout, Write};
+pub use print::{print_listing, print_totals};
+use sheet_text::grid::Cube;
+use std::io::{self, Stderr, Stdin, Stdout, Write};
 
-// What a program prints of a sheet's cube.
-#[derive(Clone, Copy)]
-pub enum Report {
-    Listing,
-    Totals,
-}
-
-// The side of the cube that is drawn, or the number of bytes of the refusal line.
-#[derive(Clone, Copy)]
-pub enum Drawing {
-    Cube(u32),
-    Line(usize),
-}
-
-// Draws a sheet into the buffer, or writes the line that says why it is refused.
-pub fn draw_or_refuse(input: &[u8], buffer: &mut [u8], text: &mut [u8]) -> Drawing
-    requires buffer_len { length buffer.old ≡ 64000 }
-    requires in_bounds { 18 ≤ length text.old }
+// Draws a sheet into the buffer, or writes the line that says why it is refused. Answers the side of the cube that is
+// drawn, or the number of bytes of the refusal line.
+pub fn draw_or_refuse(input: &[u8], buffer: &mut [u8; 64000], text: &mut [u8]) -> Result<u32, usize>
+    requires { 18 ≤ length text.old }
     ensures { DrawsOrRefuses input.now buffer.old buffer.new
         text.old text.new result }
 {
     match sheet_cube::draw_sheet(input, buffer) {
-        Answer::Drawn(sheet) => Drawing::Cube(sheet.side),
-        Answer::Refused(refusal) => {
-            sheet_text::refusal_line(refusal.number, refusal.line, text);
-            Drawing::Line(18)
+        Ok(sheet) => Ok(sheet.side),
+        Err(refused) => {
+            let _ = sheet_text::refusal_line(u32::from(refused.refusal), refused.line, text);
+            Err(18)
         }
     }
 }
 
 // Draws a sheet and writes the totals of its cube, or the line that says why it is refused. Answers the number of bytes.
-pub fn total_sheet(input: &[u8], buffer: &mut [u8], text: &mut [u8]) -> usize
-    requires buffer_len { length buffer.old ≡ 64000 }
-    requires in_bounds { 13056 ≤ length text.old }
+pub fn total_sheet(input: &[u8], buffer: &mut [u8; 64000], text: &mut [u8]) -> usize
+    requires { 13056 ≤ length text.old }
     ensures { WritesTotals input.now buffer.old buffer.new
         text.old text.new result }
 {
     match draw_or_refuse(input, buffer, text) {
-        Drawing::Cube(side) => {
+        Ok(side) => {
             let cells = sheet_cube::cells(side);
-            cube_totals::put_totals(side, &buffer[..cells], text)
+            let cube = Cube {
+                side,
+                bytes: &buffer[..cells],
+            };
+            cube_totals::put_totals(cube, text)
         }
-        Drawing::Line(bytes) => bytes,
+        Err(bytes) => bytes,
     }
 }
 
-// Runs the program of that name. The input is read to its end, or to one byte past the longest sheet: what follows
-// changes nothing.
-pub fn run(input: Stdin, output: Stdout, errors: Stderr, name: &[u8], report: Report) {
+// Runs the program of that name, which prints a sheet so. The input is read to its end, or to one byte past the longest
+// sheet: what follows changes nothing.
+pub fn run<P: FnOnce(Stdout, &[u8]) -> io::Result<()>>(
+    input: Stdin,
+    output: Stdout,
+    errors: Stderr,
+    name: &[u8],
+    print: P,
+)
+    requires { P.IsAlwaysCallable print }
+{
     let mut sheet = [0u8; 14207];
     let mut reader = input;
-    let read = reading::fill(&mut reader, &mut sheet);
-    if read.failed {
+    let Ok(count) = reading::fill(&mut reader, &mut sheet) else {
         tell(errors, name, b": the sheet cannot be read\n");
         return;
-    }
-    let count = read.count;
-    if !print_sheet(output, &sheet[..count], report) {
+    };
+    if print(output, &sheet[..count]).is_err() {
         tell(
             errors,
             name,

@@ -1,59 +1,53 @@
-// What is printed on standard output.
-ghost use Rattle.std.specs.Prelude.{◌≡◌, ◌≤◌, length};
-ghost use Rattle.cube.specs.Cube.{volume};
+// What is printed on standard output. No contract says what is written, so a program above prints stored sheets by
+// these functions.
+ghost use Rattle.std.specs.Prelude.{◌≤◌, length};
 
-use crate::{Drawing, Report};
-use std::io::{Stdout, Write};
-
-// Prints the report of a sheet, or its refusal line; false if a write fails. No contract says what is written, so a
-// program above prints stored sheets by this function.
-pub fn print_sheet(output: Stdout, input: &[u8], report: Report) -> bool {
-    let mut buffer = [0u8; 64000];
-    let mut text = [0u8; 65536];
-    match report {
-        Report::Listing => print_drawing(output, input, &mut buffer, &mut text),
-        Report::Totals => {
-            let bytes = crate::total_sheet(input, &mut buffer, &mut text);
-            print(output, &text[..bytes])
-        }
-    }
-}
-
-// Writes all of a text; false if a write fails.
-fn print(output: Stdout, text: &[u8]) -> bool {
-    let mut writer = output;
-    writer.write_all(text).is_ok()
-}
+use crate::{draw_or_refuse, total_sheet};
+use sheet_text::grid::Cube;
+use std::io::{self, Stdout, Write};
 
 // Draws a sheet and prints the listing of its cube, or its refusal line.
-fn print_drawing(output: Stdout, input: &[u8], buffer: &mut [u8], text: &mut [u8]) -> bool
-    requires buffer_len { length buffer.old ≡ 64000 }
-    requires in_bounds { 33621 ≤ length text.old }
-{
-    match crate::draw_or_refuse(input, buffer, text) {
-        Drawing::Cube(side) => {
+pub fn print_listing(output: Stdout, sheet: &[u8]) -> io::Result<()> {
+    let mut buffer = [0u8; 64000];
+    let mut text = [0u8; 65536];
+    match draw_or_refuse(sheet, &mut buffer, &mut text) {
+        Ok(side) => {
             let cells = sheet_cube::cells(side);
-            print_listing(output, side, &buffer[..cells], text)
+            let cube = Cube {
+                side,
+                bytes: &buffer[..cells],
+            };
+            print_planes(output, cube, &mut text)
         }
-        Drawing::Line(bytes) => print(output, &text[..bytes]),
+        Err(bytes) => print(output, &text[..bytes]),
     }
+}
+
+// Draws a sheet and prints the totals of its cube, or its refusal line.
+pub fn print_totals(output: Stdout, sheet: &[u8]) -> io::Result<()> {
+    let mut buffer = [0u8; 64000];
+    let mut text = [0u8; 13056];
+    let bytes = total_sheet(sheet, &mut buffer, &mut text);
+    print(output, &text[..bytes])
+}
+
+// Writes all of a text.
+fn print(output: Stdout, text: &[u8]) -> io::Result<()> {
+    let mut writer = output;
+    writer.write_all(text)
 }
 
 // Some planes at a time, as many as the text holds.
-fn print_listing(output: Stdout, side: u32, cube: &[u8], text: &mut [u8]) -> bool
-    requires le_side { (2 ≤ side) × (side ≤ 40) }
-    requires cube_len { length cube.now ≡ volume side }
+fn print_planes(output: Stdout, cube: Cube, text: &mut [u8]) -> io::Result<()>
+    requires side_bound { cube.side ≤ 40 }
     requires in_bounds { 33621 ≤ length text.old }
 {
-    let planes = side as usize;
+    let planes = cube.side as usize;
     let mut z = 0;
     while z < planes {
-        let listed = sheet_listing::list_planes(side, cube, z, text);
-        let bytes = listed.bytes;
-        if !print(output, &text[..bytes]) {
-            return false;
-        }
+        let listed = sheet_listing::list_planes(cube, z, text);
+        print(output, &text[..listed.bytes])?;
         z = listed.next;
     }
-    true
+    Ok(())
 }

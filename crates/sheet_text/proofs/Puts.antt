@@ -1,58 +1,50 @@
 -- Writes one after another: what is written from where the first ends follows its bytes.
 use mathlib.Core.Path.{◌≡◌, refl, sym, ◌∙◌, ap}
-use mathlib.Core.List.{List, [], ◌∷◌, ◌++◌}
-use Prim.Native.Nat.{ℕ, suc, ◌+◌, ◌≤◌, ◌<◌}
-use native.Mathlib.Nat.{add-zero, zero-add, add-suc, suc-add}
+use mathlib.Core.List.{List, [], ◌++◌, append_assoc, append-nil}
+use Prim.Native.Nat.{ℕ, ◌+◌, ◌-◌, ◌≤◌}
 use native.Mathlib.Omega.{arith}
-use lib.ListN.{length, set, take, length-append}
-use lib.Seq.{set_comm, sets, sets-eq, length-sets, length-take-le, take_at}
-use Rattle.sheet.specs.Part.{over}
+use lib.ListN.{length, take, drop, length-append, length-drop}
+use lib.Seq.{take_all, take_at, drop_at, drop-drop}
+use Rattle.std.proofs.lemmas.List.{drop_all}
+use borrow.Rule.Slice.PartMut.{mid_of, put_mid}
 use Rattle.sheet_text.specs.Puts.{Puts}
 
-sets_append : (a b l : List ℕ) (i : ℕ) → sets (sets l i a) (i + length a) b ≡ sets l i (a ++ b)
-sets_append [] b l i = rw add-zero
-sets_append (v ∷ a) b l i = rw (add-suc, ← suc-add) (sets_append a b (set l i v) (suc i))
-
--- A byte stored before them.
-pub sets_before : (vs l : List ℕ) (i b : ℕ) → set (sets l (suc i) vs) i b ≡ sets l i (b ∷ vs)
-sets_before vs l i b = after vs l (suc i) (omega arith)
-  where
-    after : (vs l : List ℕ) (j : ℕ) → i < j → set (sets l j vs) i b ≡ sets (set l i b) j vs
-    after [] l j h = refl
-    after (v ∷ vs) l j h =
-        after vs (set l j v) (suc j) (omega arith) ∙
-        ap (λ m. sets m (suc j) vs) (set_comm l j i v b (λ e. omega (arith, e)))
-
 -- Nothing.
-pub puts_none : (at : ℕ) (t : List ℕ) → Puts [] at t t at
-puts_none at t = record { holds = refl; goes_on = sym (add-zero at) }
+pub puts_none : (t : List ℕ) → Puts [] t t 0
+puts_none t = record { holds = refl; counts = refl }
 
--- One byte.
-pub puts_byte : {b at n : ℕ} {t : List ℕ} → n ≡ at + 1 → Puts (b ∷ []) at t (set t at b) n
-puts_byte e = record { holds = refl; goes_on = e }
+module _ {a t u : List ℕ} {n : ℕ} (p : Puts a t u n) where
+  -- The bytes, and what stands after them.
+  pub puts_take : take n u ≡ a
+  puts_take = rw p.holds (take_at a _ n (sym p.counts))
 
-module _ {a : List ℕ} {at : ℕ} {t u : List ℕ} {n : ℕ} (p : Puts a at t u n) where
+  pub puts_drop : drop n u ≡ drop n t
+  puts_drop = rw p.holds (drop_at a _ n (sym p.counts) ∙ ap (λ k. drop k t) (sym p.counts))
+
   -- Bytes after bytes.
-  pub puts_append : {b : List ℕ} {v : List ℕ} {m : ℕ} → Puts b n u v m → Puts (a ++ b) at t v m
-  puts_append {b} q = record {
-    holds = q.holds ∙ rw (p.holds, p.goes_on) (sets_append a b t at);
-    goes_on = q.goes_on ∙ rw (p.goes_on, length-append) (omega arith);
+  pub puts_append : {b w : List ℕ} {m : ℕ} → Puts b (drop n u) w m → Puts (a ++ b) t (take n u ++ w) (n + m)
+  puts_append {b} {w} {m} q = record {
+    holds =
+        rw (puts_take, q.holds, puts_drop, p.counts, length-append)
+        (ap (λ r. a ++ (b ++ r)) (drop-drop (length b) (length a) t) ∙ sym (append_assoc a b _));
+    counts = rw (p.counts, q.counts, length-append);
   }
 
-  -- The byte after them, by their number.
-  pub puts_next : {m : ℕ} → m ≡ at + length a → Puts a at t u m
-  puts_next e = record { holds = p.holds; goes_on = e }
+  -- A part of the text after them.
+  pub puts_part : (b : List ℕ) (k : ℕ) → length b ≡ k → Puts (a ++ b) t (put_mid n k u b) (n + k)
+  puts_part b k size = puts_append (record { holds = rw size; counts = rw size })
+
+  -- All of the text after them.
+  pub puts_rest : {b w : List ℕ} {m k : ℕ} → k ≡ length u - n → Puts b (mid_of n k u) w m →
+      Puts (a ++ b) t (put_mid n k u w) (n + m)
+  puts_rest {b} {w} {m} {k} is q =
+      let size : length (drop n u) ≤ k = rw length-drop (omega (arith, is)) in
+      rw (drop_all k (drop n u) size, append-nil) (puts_append (rw (take_all k (drop n u) size) at q))
 
   -- The text keeps its length.
-  pub puts_length : length u ≡ length t
-  puts_length = ap length p.holds ∙ length-sets t at a
+  pub puts_length : length a ≤ length t → length u ≡ length t
+  puts_length fits = rw (p.holds, length-append, length-drop) (omega arith)
 
-  -- What is there up to the end of the bytes.
-  pub puts_front : at + length a ≤ length t → take n u ≡ take at t ++ a
-  puts_front fits =
-      rw (p.holds, p.goes_on, sets-eq a t at fits)
-      (take_at (take at t ++ a) _ (at + length a) (length-append (take at t) a ∙ rw (length-take-le at t (omega arith))))
-
--- Written from the front.
-pub puts_over : {a t u : List ℕ} {n : ℕ} → Puts a 0 t u n → length a ≤ length t → u ≡ over a t
-puts_over {a} {t} p fits = p.holds ∙ sets-eq a t 0 (omega arith) ∙ rw zero-add
+  -- They are all of it.
+  pub puts_whole : length t ≡ n → u ≡ a
+  puts_whole size = rw (p.holds, drop_all (length a) t (omega (arith, p.counts, size)), append-nil)

@@ -1,17 +1,17 @@
--- A call that writes of a cube into a text, by its answered number: 0 says that no test of the order applies, any other
--- number that it refuses the call.
-use mathlib.Core.Path.{◌≡◌, refl, ◌∙◌, ap}
-use mathlib.Core.Bool.{Bool, false}
-use Prim.Native.Nat.{ℕ, zero, suc, ◌≤◌}
+-- A call that writes of a cube into a text: a number that refuses the cube refuses the call, and of a cube that none
+-- refuses the room decides. And what a call has that no number refuses.
+use mathlib.Core.Path.{◌≡◌, refl, sym}
+use mathlib.Core.Bool.{Bool, true, false, cond}
+use Prim.Native.Nat.{ℕ, ◌≤◌}
 use lib.Dec.{eqb}
 use borrow.Author.Tests.{not-false, eqb-true}
+use Rattle.std.specs.Prelude.{not}
 use Rattle.decide.specs.Refusal.{accepted, refused, first_that}
-use Rattle.decide.proofs.Refusal.{accepted_passes}
+use Rattle.decide.proofs.FirstThat.{accepted_passes, not_both}
 use Rattle.decide.proofs.Truth.{false_iff}
-use Rattle.cube.specs.Cube.{volume}
+use Rattle.cube.specs.Cube.{side_out, volume}
 use Rattle.cube.proofs.Words.{side_in_lem}
 use Rattle.sheet.specs.Part.{text_order}
-use Rattle.sheet_text.specs.Numbered.{numbered}
 
 -- A call that no number refuses.
 pub record Passes (S cubeLength : ℕ) (short : Bool) : Type 0 where
@@ -19,7 +19,6 @@ pub record Passes (S cubeLength : ℕ) (short : Bool) : Type 0 where
   pub side_most : S ≤ 64
   pub whole : cubeLength ≡ volume S
   pub room : short ≡ false
-  pub verdict : first_that (text_order S cubeLength short) ≡ accepted
 
 module _ (S cubeLength : ℕ) (short : Bool) where
   pub passes : first_that (text_order S cubeLength short) ≡ accepted → Passes S cubeLength short
@@ -34,18 +33,26 @@ module _ (S cubeLength : ℕ) (short : Bool) where
         side_most = side.1;
         whole = eqb-true cubeLength (volume S) (not-false (eqb cubeLength (volume S)) b.0);
         room = c.0;
-        verdict = e;
       }
 
-  module _ {r : ℕ} (e : first_that (text_order S cubeLength short) ≡ numbered r) where
-    -- No number is answered.
-    pub none_refuses : r ≡ 0 → Passes S cubeLength short
-    none_refuses z = passes (e ∙ ap numbered z)
+  pub cube_refused : {k : ℕ} → refused k ≡ first_that (text_order S cubeLength false) →
+      first_that (text_order S cubeLength short) ≡ refused k
+  unfolding text_order first_that
+  cube_refused {k} = by_tests (side_out S) (not (eqb cubeLength (volume S)))
+    where
+      by_tests : (p q : Bool) → refused k ≡ cond p (refused 11) (cond q (refused 21) accepted) →
+          cond p (refused 11) (cond q (refused 21) (cond short (refused 22) accepted)) ≡ refused k
+      by_tests true q e = sym e
+      by_tests false true e = sym e
+      by_tests false false e = absurd (not_both e)
 
-    -- A number is answered.
-    pub some_refuses : ¬ (r ≡ 0) → first_that (text_order S cubeLength short) ≡ refused r
-    some_refuses more = e ∙ is_number_lem r more
-      where
-        is_number_lem : (k : ℕ) → ¬ (k ≡ 0) → numbered k ≡ refused k
-        is_number_lem zero more = absurd (more refl)
-        is_number_lem (suc k) more = refl
+  pub room_decides : accepted ≡ first_that (text_order S cubeLength false) →
+      first_that (text_order S cubeLength short) ≡ cond short (refused 22) accepted
+  unfolding text_order first_that
+  room_decides = by_tests (side_out S) (not (eqb cubeLength (volume S)))
+    where
+      by_tests : (p q : Bool) → accepted ≡ cond p (refused 11) (cond q (refused 21) accepted) →
+          cond p (refused 11) (cond q (refused 21) (cond short (refused 22) accepted)) ≡ cond short (refused 22) accepted
+      by_tests true q e = absurd (not_both (sym e))
+      by_tests false true e = absurd (not_both (sym e))
+      by_tests false false e = refl

@@ -1,8 +1,8 @@
--- What the inner functions do: bytes are written into a text, and the next byte's place is answered.
-use Rattle.std.specs.Prelude.{◌≡◌, List, ℕ, ◌+◌, length}
-use Rattle.std.proofs.lemmas.List.Edits.{sets}
+-- What the inner functions do: bytes are written from the front of a text, and their number is answered.
+use Rattle.std.specs.Prelude.{◌≡◌, List, ℕ, length}
+use Rattle.sheet.specs.Part.{over}
 
--- The bytes stand in the text from byte `at` on, all else is as it was, and `next` is the byte after them.
-pub record Puts (bytes : List ℕ) (at : ℕ) (text text_after : List ℕ) (next : ℕ) : Type 0 where
-  pub holds : text_after ≡ sets text at bytes
-  pub goes_on : next ≡ at + length bytes
+-- The bytes stand at the front of the text, all else is as it was, and `count` is their number.
+pub record Puts (bytes text text_after : List ℕ) (count : ℕ) : Type 0 where
+  pub holds : text_after ≡ over bytes text
+  pub counts : count ≡ length bytes

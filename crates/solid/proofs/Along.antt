@@ -87,15 +87,11 @@ module _ {points : List ℕ} {n m l : ℕ} (q : InLimits points n m l) where
         at : (k p : ℕ) → ℕ → ℤ
         at k p b = delta k (λ i. face_along points n m a p i b) 0
 
-        room : (k p : ℕ) → k < 4 → p < 4 → Room (differences_at (at k p) 0)
-        room k p hk hp = face_room (numbered points a) q.n_most q.m_most points_below k p hk hp
-
         across : (k : ℕ) → k < 4 →
             StartsAcross (pos l)
             (differences_at (at k 0) 0) (differences_at (at k 1) 0) (differences_at (at k 2) 0) (differences_at (at k 3) 0)
         across k hk =
             starts_across (at k 0) (at k 1) (at k 2) (at k 3)
-            (room k 0 hk (lit< tt)) (room k 1 hk (lit< tt)) (room k 2 hk (lit< tt)) (room k 3 hk (lit< tt))
             (λ d hd. volume_start (numbered points a) q.n_most q.m_most points_below q.l_most k d hk hd)
 
     pub along_bounded : VolumeBounded n m l (doubled_along points n m l a)

@@ -16,20 +16,17 @@ use Rattle.drawing.specs.Refusals.{Drawable, draw_verdict}
 use Rattle.drawing.specs.Drawing.{row, rows, samples, marked, cells, drawn_by, drawn}
 use Rattle.drawing.proofs.Samples.{rows_append, rows_first, rows_more, one_row}
 use Rattle.cubic.specs.Differences.{delta, IsTricubic}
+use Rattle.cubic.proofs.Next.{same_fields}
 use Rattle.surface.specs.Surface.{surface_of, row_of, next_surface, along_t, Bounded}
 use Rattle.surface.specs.Volume.{volume_of, slice_at}
-use Rattle.surface.proofs.Parts.{same_cubics}
 use Rattle.surface.proofs.Slices.{slice_of_lem, volume_next, slice_bicubic, volume_room, slice_bounded}
-use Rattle.scan.specs.declared.walker.Strides.{Strides}
-use Rattle.scan.specs.Walker.{stride_of, grid_strides, place_of}
+use Rattle.scan.specs.Walker.{Strides, stride_of, grid_strides, place_of}
 use Rattle.scan.proofs.Axes.{offset_small}
-use Rattle.rows.specs.declared.Lines.{Lines}
-use Rattle.rows.specs.Lines.{start_line, line_of, rows_of_walkers, RowsOnGrid}
+use Rattle.rows.specs.Lines.{Lines, start_line, line_of, rows_of_walkers, RowsOnGrid}
 use Rattle.rows.proofs.Walked.{Rows, steps_of_lem, OnRow, row_starts, rows_start, next_room, next_on_row, rows_on_grid, rows_places}
 use Rattle.solid.specs.declared.Solid.{Solid}
-use Rattle.solid.specs.declared.slices.Blocks.{Blocks}
 use Rattle.solid.specs.Solid.{solid_of}
-use Rattle.solid.specs.Blocks.{block_of, BlocksRoom, next_blocks, slice_line, slice_lines}
+use Rattle.solid.specs.Blocks.{Blocks, block_of, BlocksRoom, next_blocks, slice_line, slice_lines}
 use Rattle.solid.specs.Machine.{InLimits, doubled_along, start_blocks}
 use Rattle.solid.proofs.Along.{along_tricubic, scale_small, along_bounded, doubles}
 
@@ -82,7 +79,7 @@ slice_starts {s} {k = k} {b} o = record {
   walk = row_starts o.line;
   steps = λ a.
       ap steps_of_lem (slice_on b a) ∙
-      same_cubics (ap row_of (o.d1 a)) (ap row_of (o.d2 a)) (ap row_of (o.d3 a)) refl ∙
+      same_fields (ap row_of (o.d1 a)) (ap row_of (o.d2 a)) (ap row_of (o.d3 a)) refl ∙
       ap along_t (slice_of_lem (values_of s a) k);
 }
 
@@ -198,14 +195,11 @@ module _ (S : ℕ) (s : Solid) where
   abbrev pub slice_places : ℕ → List ℕ
   slice_places k = map cell_place (rows s.n (row s.m (k ∷ [])))
 
-  -- The places of the slices before slice k; with those of slice k they are those of the slices 0 to k.
-  abbrev pub earlier : ℕ → List ℕ
-  earlier zero = []
-  earlier (suc k) = places S s k
+  pub first_slice : slice_places 0 ≡ places S s 0
+  first_slice = ap (λ q. map cell_place (rows s.n q)) (sym (rows_first s.m []))
 
-  pub with_slice : (k : ℕ) → earlier k ++ slice_places k ≡ places S s k
-  with_slice zero = ap (λ q. map cell_place (rows s.n q)) (sym (rows_first s.m []))
-  with_slice (suc k) =
+  pub more_slices : (k : ℕ) → places S s k ++ slice_places (suc k) ≡ places S s (suc k)
+  more_slices k =
       sym (ap (λ q. map cell_place (rows s.n q)) (rows_more s.m k []) ∙
       ap (map cell_place) (rows_append s.n (rows s.m (row k [])) (row s.m (suc k ∷ []))) ∙
       map-append cell_place (rows s.n (rows s.m (row k []))) _)

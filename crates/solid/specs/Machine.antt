@@ -4,9 +4,8 @@ use Rattle.bezier.specs.Exact.{scale}
 use Rattle.cubic.specs.Blend.{face, volume, twice}
 use Rattle.surface.specs.Volume.{volume_of, long_volume_steps}
 use Rattle.scan.specs.Column.{Below64}
-use Rattle.scan.specs.declared.walker.Strides.{Strides}
-use Rattle.solid.specs.declared.slices.Blocks.{Blocks}
-use Rattle.solid.specs.Blocks.{start_block}
+use Rattle.scan.specs.Walker.{Strides}
+use Rattle.solid.specs.Blocks.{Blocks, start_block}
 
 -- What must hold before the step test can be asked: neither 13 nor 14 applies, at a side up to 64.
 pub record InLimits (points : List ℕ) (n m l : ℕ) : Type 0 where

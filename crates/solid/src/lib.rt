@@ -4,20 +4,20 @@
 
 mod slices;
 mod start;
-mod steps;
 
-ghost use Rattle.std.specs.Prelude.{◌≡◌, false};
-ghost use Rattle.decide.specs.Some.{some_of};
-ghost use Rattle.decide.specs.Refusal.{first_that};
+ghost use Rattle.std.specs.Prelude.{◌≡◌};
 ghost use Rattle.decide.specs.Verdict.{verdict_of};
-ghost use Rattle.drawing.specs.Refusals.{count_out, order, check_verdict};
+ghost use Rattle.drawing.specs.Refusals.{check_verdict};
 ghost use Rattle.drawing.specs.Drawing.{drawing_of};
 ghost use Rattle.scan.specs.Answer.{Draws};
 ghost use Rattle.solid.specs.Solid.{solid_of};
 
-use decide::Verdict;
+use decide::Refusal;
 use drawing::Choice;
-use scan::answer::{DrawAnswer, Drawn};
+use rows::record;
+use rows::record::Record;
+use scan::answer::Drawn;
+use scan::refusal::is_count_out;
 
 // A solid record: x, y, z of points 0 to 63, the step counts n along t, m along u and l along v, the mark and the choice, over
 // or under.
@@ -32,50 +32,42 @@ pub struct Solid {
 }
 
 // Whether the solid can be drawn in a cube of the given side. Refused: 11, 13, 14, 15.
-pub fn check_solid(side: u32, solid: Solid) -> Verdict
+pub fn check_solid(side: u32, solid: Solid) -> Result<(), Refusal>
     ensures { verdict_of result ≡ check_verdict side (solid_of solid) }
 {
-    verdict(side, solid, false, false)
+    record::check(side, &solid)
 }
 
 // Writes the mark, over or under, in each sample's cell of the grid. Refused: 11, 21, 12, 13, 14, 15.
-pub fn draw_solid(side: u32, solid: Solid, grid: &mut [u8]) -> DrawAnswer
+pub fn draw_solid(side: u32, solid: Solid, grid: &mut [u8]) -> Result<Drawn, Refusal>
     ensures { Draws (drawing_of side (solid_of solid)) grid.old grid.new result }
 {
-    let cube = scan::refusal::is_volume(side, grid.len());
-    match verdict(side, solid, !cube, solid.mark == 0) {
-        Verdict::Refused(k) => DrawAnswer::Refused(k),
-        Verdict::Accepted => {
-            let new_cells = slices::mark_slices(side, solid, grid);
-            let answer = (solid.n + 1) * (solid.m + 1) * (solid.l + 1);
-            DrawAnswer::Accepted(Drawn { answer, new_cells })
-        }
-    }
+    record::draw(side, &solid, grid)
 }
 
-// The first number that applies, with what grid and mark have to say.
-fn verdict(side: u32, solid: Solid, grid_wrong: bool, mark_wrong: bool) -> Verdict
-    ensures { verdict_of result ≡ first_that (order side (solid_of solid) grid_wrong mark_wrong false) }
-{
-    let points = solid.points;
-    let count_out = is_count_out(solid);
-    match scan::refusal::before_steps(side, &points, grid_wrong, mark_wrong, count_out, false) {
-        Verdict::Refused(k) => Verdict::Refused(k),
-        Verdict::Accepted => {
-            if steps::step_too_long(solid) {
-                Verdict::Refused(15)
-            } else {
-                Verdict::Accepted
-            }
-        }
-    }
-}
+impl Record for Solid {
+    ghost object = { solid_of };
 
-// A step count is outside its range.
-fn is_count_out(solid: Solid) -> bool
-    ensures { result ≡ some_of (count_out 32) (solid_of solid).counts }
-{
-    scan::refusal::is_count_out(32, solid.n)
-        || scan::refusal::is_count_out(32, solid.m)
-        || scan::refusal::is_count_out(32, solid.l)
+    fn points(&self) -> &[u8] {
+        &self.points
+    }
+
+    fn mark(&self) -> u8 {
+        self.mark
+    }
+
+    fn is_count_out(&self) -> bool {
+        is_count_out(32, self.n) || is_count_out(32, self.m) || is_count_out(32, self.l)
+    }
+
+    fn step_too_long_along(&self, a: usize) -> bool {
+        let scale = start::scale(self.n, self.m, self.l);
+        surface::volume::step_too_long(start::start_volume(self, a), scale, self.n, self.m, self.l)
+    }
+
+    fn mark_samples(&self, side: u32, grid: &mut [u8]) -> Drawn {
+        let new_cells = slices::mark_slices(side, *self, grid);
+        let answer = (self.n + 1) * (self.m + 1) * (self.l + 1);
+        Drawn { answer, new_cells }
+    }
 }

@@ -12,9 +12,12 @@ ghost use Rattle.solid.specs.Blocks.{slice_line, slice_lines};
 ghost use Rattle.solid.specs.Machine.{InLimits, doubled_along, start_blocks};
 
 use crate::Solid;
-use crate::start::start_volume;
-use rows::{Line, Lines};
+use crate::start::{scale, start_volume};
+use cubic::differences::Forward;
+use rows::{Line, Lines, mark_rows};
+use scan::mark::Ink;
 use scan::walker::Strides;
+use scan::xyz::{AXES, Xyz};
 use surface::Surface;
 
 // One axis: the walk along v through t = u = 0, whose remainder is carried into each slice, with cubics along v of the
@@ -27,46 +30,32 @@ pub(crate) struct Block {
     pub d3: Surface,
 }
 
-// Three axes.
-#[derive(Clone, Copy)]
-pub(crate) struct Blocks {
-    pub x: Block,
-    pub y: Block,
-    pub z: Block,
-}
+pub(crate) type Blocks = Xyz<Block>;
 
 // Slice 0 on one axis: the cell of point 0.
-fn start_block(points: &[u8], n: u32, m: u32, l: u32, a: usize, stride: i64) -> Block
-    requires in_limits { InLimits points.now n m l }
+fn start_block(solid: &Solid, a: usize, stride: i64) -> Block
+    requires in_limits { InLimits solid.now.points solid.now.n solid.now.m solid.now.l }
     requires a_bound { a < 3 }
     requires small_stride { SmallStride stride }
-    ensures { result ≡ start_block stride (pos (get_or points.now a 0))
-        (volume_of (doubled_along points.now n m l a) 0) }
+    ensures { result ≡ start_block stride (pos (get_or solid.now.points a 0))
+        (volume_of (doubled_along solid.now.points solid.now.n solid.now.m solid.now.l a) 0) }
 {
-    let v = start_volume(points, n, m, l, a);
-    let value = v.value;
-    let d1 = v.d1;
-    let d2 = v.d2;
-    let d3 = v.d3;
+    let v = start_volume(solid, a);
     Block {
-        value: Line::start(stride, scan::number::coordinate(points[a]), value),
-        d1,
-        d2,
-        d3,
+        value: Line::start(stride, i64::from(solid.points[a]), v.value),
+        d1: v.d1,
+        d2: v.d2,
+        d3: v.d3,
     }
 }
 
 // Slice 0.
-fn start_blocks(points: &[u8], n: u32, m: u32, l: u32, h: Strides) -> Blocks
-    requires in_limits { InLimits points.now n m l }
+fn start_blocks(solid: &Solid, h: Strides) -> Blocks
+    requires in_limits { InLimits solid.now.points solid.now.n solid.now.m solid.now.l }
     requires small_strides { SmallStrides h }
-    ensures { result ≡ start_blocks points.now n m l h }
+    ensures { result ≡ start_blocks solid.now.points solid.now.n solid.now.m solid.now.l h }
 {
-    Blocks {
-        x: start_block(points, n, m, l, 0, h.x),
-        y: start_block(points, n, m, l, 1, h.y),
-        z: start_block(points, n, m, l, 2, h.z),
-    }
+    AXES.with(h, |a, stride| start_block(solid, a, stride))
 }
 
 impl Block {
@@ -74,15 +63,11 @@ impl Block {
     fn slice(self) -> Line
         ensures { result ≡ slice_line self }
     {
-        let a = self.value;
-        let b = self.d1;
-        let c = self.d2;
-        let d = self.d3;
         Line {
-            walk: a.row(),
-            d1: b.row(),
-            d2: c.row(),
-            d3: d.row(),
+            walk: self.value.row(),
+            d1: self.d1.slice(),
+            d2: self.d2.slice(),
+            d3: self.d3.slice(),
         }
     }
 
@@ -91,49 +76,28 @@ impl Block {
         requires { BlockRoom scale stride self }
         ensures { result ≡ next_block scale stride self }
     {
-        let a = self.value;
-        let b = self.d1;
-        let c = self.d2;
-        let d = self.d3;
-        let value = a.next(scale, stride);
         Block {
-            value,
-            d1: b.next(),
-            d2: c.next(),
-            d3: d.next(),
+            value: self.value.next(scale, stride),
+            d1: self.d1.next(),
+            d2: self.d2.next(),
+            d3: self.d3.next(),
         }
     }
 }
 
-impl Blocks {
-    // The slice's row 0.
-    fn slice(self) -> Lines
-        ensures { result ≡ slice_lines self }
-    {
-        let x = self.x;
-        let y = self.y;
-        let z = self.z;
-        Lines {
-            x: x.slice(),
-            y: y.slice(),
-            z: z.slice(),
-        }
-    }
+// The slice's row 0.
+fn slice_lines(blocks: Blocks) -> Lines
+    ensures { result ≡ slice_lines blocks }
+{
+    blocks.map(|block| block.slice())
+}
 
-    // The next slice.
-    fn next(self, scale: i64, h: Strides) -> Blocks
-        requires { BlocksRoom scale h self }
-        ensures { result ≡ next_blocks scale h self }
-    {
-        let x = self.x;
-        let y = self.y;
-        let z = self.z;
-        Blocks {
-            x: x.next(scale, h.x),
-            y: y.next(scale, h.y),
-            z: z.next(scale, h.z),
-        }
-    }
+// The next slice.
+fn next_blocks(blocks: Blocks, scale: i64, h: Strides) -> Blocks
+    requires { BlocksRoom scale h blocks }
+    ensures { result ≡ next_blocks scale h blocks }
+{
+    blocks.with(h, |block, stride| block.next(scale, stride))
 }
 
 // Marks the cells of an accepted solid's samples, over or under, slice by slice. Answers how many of them were unmarked before.
@@ -143,23 +107,16 @@ pub(crate) fn mark_slices(side: u32, solid: Solid, grid: &mut [u8]) -> u32
     ensures grid_after_2 { grid.new ≡ drawn side (solid_of solid) grid.old }
 {
     let h = scan::number::grid_strides(side);
-    let n = solid.n;
-    let m = solid.m;
-    let mark = solid.mark;
-    let choice = solid.choice;
-    let scale = crate::start::scale(n, m, solid.l);
-    let p = solid.points;
-    let mut blocks = start_blocks(&p, n, m, solid.l, h);
-    let mut new_cells = 0;
-    let mut k = 0;
-    loop {
-        let lines = blocks.slice();
-        new_cells += rows::mark_rows(lines, n, m, scale, h, mark, choice, grid);
-        if k == solid.l {
-            break;
-        }
-        blocks = blocks.next(scale, h);
-        k += 1;
+    let scale = scale(solid.n, solid.m, solid.l);
+    let ink = Ink {
+        mark: solid.mark,
+        choice: solid.choice,
+    };
+    let mut blocks = start_blocks(&solid, h);
+    let mut new_cells = mark_rows(ink, slice_lines(blocks), solid.n, solid.m, scale, h, grid);
+    for _ in 0..solid.l {
+        blocks = next_blocks(blocks, scale, h);
+        new_cells += mark_rows(ink, slice_lines(blocks), solid.n, solid.m, scale, h, grid);
     }
     new_cells
 }

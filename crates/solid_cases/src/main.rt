@@ -36,111 +36,75 @@
 mod beside;
 mod calls;
 
-ghost use Rattle.std.specs.Prelude.{◌≡◌, ◌*◌, ◌≤◌, length};
+ghost use Rattle.std.specs.Prelude.{◌≡◌, length};
 
-use cases::block::Progress;
-use cases::bytes::{copy, front};
-use cases::lent::Answer;
+use cases::answer::Answer;
+use cases::block::{Answers, answer_block};
 use cases::record::number;
-use cases::turns::Turns;
+use cases::run::{Stop, run};
 use std::io::{Stdin, Stdout};
+
+// The buffer, and the bytes that are lent to a second call.
+#[derive(Drop)]
+struct Buffers<'a> {
+    buffer: &'a mut [u8; 262144],
+    second: &'a mut [u8; 262144],
+}
 
 fn main(rt: HostRuntime) {
     let mut buffer = [0u8; 262144];
     let mut second = [0u8; 262144];
-    let mut turns = Turns::all();
-    while turns.left > 0 {
-        let progress = answer_block(rt.stdin(), rt.stdout(), &mut buffer, &mut second);
-        turns = turns.after(progress, rt.stdout(), rt.stderr());
-    }
+    let mut buffers = Buffers {
+        buffer: &mut buffer,
+        second: &mut second,
+    };
+    run(rt.stdout(), rt.stderr(), || {
+        answer_next(rt.stdin(), rt.stdout(), &mut buffers)
+    });
 }
 
 // Answers the next 256 cases, or as many as are left.
-fn answer_block(input: Stdin, output: Stdout, buffer: &mut [u8], second: &mut [u8]) -> Progress {
+fn answer_next(input: Stdin, output: Stdout, buffers: &mut Buffers) -> Result<(), Stop> {
     let mut records = [0u8; 166144];
     let mut answers = [0u8; 12032];
-    answer_input(input, output, &mut records, &mut answers, buffer, second)
+    answer_block::<649, 47, 5, Buffers>(input, output, &mut records, &mut answers, buffers)
 }
 
-// Reads cases until their buffer is full or the input ends, and writes the answers.
-fn answer_input(
-    input: Stdin,
-    output: Stdout,
-    records: &mut [u8],
-    answers: &mut [u8],
-    buffer: &mut [u8],
-    second: &mut [u8],
-) -> Progress
-    requires { (length records.old ≡ 166144) × (length answers.old ≡ 12032) }
-{
-    let block = cases::block::read_records(input, records, 649);
-    let then = block.then;
-    answer_cases(records, block.count, answers, buffer, second);
-    cases::block::write_answers(output, answers, block.count * 47, then)
-}
-
-// Answers each case with the record of the same number.
-fn answer_cases(
-    records: &[u8],
-    count: usize,
-    answers: &mut [u8],
-    buffer: &mut [u8],
-    second: &mut [u8],
-)
-    requires count_in_bounds { count * 649 ≤ length records.now }
-    requires count_in_bounds_2 { count * 47 ≤ length answers.old }
-    ensures { length answers.new ≡ length answers.old }
-{
-    let mut k = 0;
-    while k < count {
-        let answer = answer_case(cases::record::nth(records, k, 649), buffer, second);
-        let numbers = answer.numbers;
-        cases::answer::put_answer(answer.letter, answer.hexadecimal, &numbers, answers, k * 47);
-        k += 1;
+impl Answers<649, 5> for Buffers<'_> {
+    fn answer(&mut self, case: &[u8; 649]) -> Answer<5> {
+        answer_case(case, self.buffer, self.second)
     }
 }
 
 // The answer to one case.
-fn answer_case(case: &[u8], buffer: &mut [u8], second: &mut [u8]) -> Answer
-    requires { length case.now ≡ 649 }
-{
-    if !cases::record::is_case(case) {
-        return cases::lent::none();
-    }
+fn answer_case(
+    case: &[u8; 649],
+    buffer: &mut [u8; 262144],
+    second: &mut [u8; 262144],
+) -> Answer<5> {
     match case[0] {
-        b'S' => cases::lent::show(case, buffer),
-        b'C' => calls::check_solid(case),
-        _ => answer_lent(case, buffer, second),
+        b'S' => return cases::lent::show(case, buffer),
+        b'C' => return calls::check_solid(case),
+        _ => {}
     }
-}
-
-// The answer to a case that is lent bytes of the buffer.
-fn answer_lent(case: &[u8], buffer: &mut [u8], second: &mut [u8]) -> Answer
-    requires { length case.now ≡ 649 }
-{
     let count = number(case, 3) as usize;
-    if buffer.len() < count || second.len() < count {
-        return cases::lent::none();
+    if buffer.len() < count {
+        return Answer::none();
     }
-    answer_within(case, front(buffer, count), front(second, count))
+    answer_lent(case, &mut buffer[..count], &mut second[..count])
 }
 
 // The answer to a case that is lent these bytes, and others for a second call.
-fn answer_within(case: &[u8], lent: &mut [u8], again: &mut [u8]) -> Answer
-    requires { length case.now ≡ 649 }
+fn answer_lent(case: &[u8; 649], lent: &mut [u8], again: &mut [u8]) -> Answer<5>
+    requires { length lent.old ≡ length again.old }
 {
     match case[0] {
         b'F' => cases::lent::fill(case, lent),
         b'D' => calls::draw_solid(case, lent),
-        b'K' | b'P' => answer_both(case, lent, again),
-        _ => cases::lent::none(),
+        b'K' | b'P' => {
+            again.copy_from_slice(lent);
+            beside::draw_both(case, lent, again)
+        }
+        _ => Answer::none(),
     }
-}
-
-// The answer to a case that makes two calls, which are lent the same bytes.
-fn answer_both(case: &[u8], lent: &mut [u8], again: &mut [u8]) -> Answer
-    requires { length case.now ≡ 649 }
-{
-    copy(lent, again);
-    beside::draw_both(case, lent, again)
 }

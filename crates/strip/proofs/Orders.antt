@@ -5,13 +5,12 @@ use mathlib.Core.Bool.{Bool, true, false, ◌||◌}
 use mathlib.Core.List.{List, [], ◌∷◌}
 use Prim.Native.Nat.{ℕ}
 use lib.ListN.{take, drop}
+use Rattle.std.specs.List.{list_any}
 use Rattle.decide.specs.Some.{some_of}
 use Rattle.decide.specs.Refusal.{◌when◌, accepted, refused, right_after, numbers}
 use Rattle.decide.proofs.Truth.{both_false}
-use Rattle.decide.proofs.Some.{some_of_one}
-use Rattle.decide.proofs.Refusal.{NoneApplies, inserted, inserted_idle, accepted_none, refused_at}
-use Rattle.drawing.specs.declared.Choice.{Choice}
-use Rattle.drawing.specs.Object.{Object, curve, patch}
+use Rattle.decide.proofs.FirstThat.{NoneApplies, inserted, inserted_idle, accepted_none, refused_at}
+use Rattle.drawing.specs.Object.{Object}
 use Rattle.drawing.specs.Refusals.{order, drawing_order, draw_verdict}
 use Rattle.drawing.specs.Drawing.{drawing_of}
 use Rattle.scan.proofs.Alike.{Alike}
@@ -72,19 +71,8 @@ taken_alike S o e = record {
   verdict = λ len. sym (taken S len o e);
 }
 
--- Whether the strip takes a curve or a patch, by one count at a time.
-module _ (S : ℕ) (points : List ℕ) (mark : ℕ) (choice : Choice) where
-  pub beyond_curve : (n : ℕ) → beyond S (curve n points mark choice) ≡ (side_above S || count_above n)
-  unfolding beyond
-  beyond_curve n = ap (side_above S ||◌) (some_of_one count_above n)
-
-  pub beyond_patch : (n m : ℕ) →
-      beyond S (patch n m points mark choice) ≡ ((side_above S || count_above n) || (side_above S || count_above m))
-  unfolding some_of beyond
-  beyond_patch n m = apart (side_above S) (count_above n) (count_above m)
-    where
-      apart : (s n m : Bool) → (s || (n || (m || false))) ≡ ((s || n) || (s || m))
-      apart true n m = refl
-      apart false true m = refl
-      apart false false true = refl
-      apart false false false = refl
+-- Some element passes, as the definition says it and as the library does.
+pub any_passes : (p : ℕ → Bool) (l : List ℕ) → list_any p l ≡ some_of p l
+unfolding some_of
+any_passes p [] = refl
+any_passes p (a ∷ l) = ap (p a ||◌) (any_passes p l)

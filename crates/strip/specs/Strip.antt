@@ -1,11 +1,11 @@
 -- Document 02, A.9: the preview strip, document 01's drawing of curves and patches with a small cube: side 2 to 17 and at most 64
 -- steps along each parameter.
-use Rattle.std.specs.Prelude.{◌≡◌, Bool, true, false, ◌||◌, List, ℕ, ltb}
+use Rattle.std.specs.Prelude.{◌≡◌, Bool, false, ◌||◌, List, ℕ, ltb}
 use Rattle.decide.specs.Some.{some_of}
 use Rattle.decide.specs.Refusal.{Rule, ◌when◌, Verdict, accepted, refused, first_that, right_after}
 use Rattle.drawing.specs.declared.Choice.{Choice}
 use Rattle.drawing.specs.Object.{Object}
-use Rattle.drawing.specs.Refusals.{count_out, drawing_order}
+use Rattle.drawing.specs.Refusals.{drawing_order}
 use Rattle.drawing.specs.Drawing.{Drawing, drawing_of, judged_by}
 
 -- 23: a side above the strip's. Right after 11 it is one of 18 to 64.
@@ -43,7 +43,6 @@ Judges S gridLength o (refused k) = strip_verdict S gridLength o ≡ refused k
 pub record JudgesAll (S gridLength : ℕ) (object : (points : List ℕ) (choice : Choice) → Object) (v : Verdict) : Type 0 where
   pub each : (points : List ℕ) (choice : Choice) → Judges S gridLength (object points choice) v
 
--- The number of a call that the strip does not take: of every object with this mark, whose counts 13 finds out of range or not.
-pub record NumberOf (S gridLength mark : ℕ) (out : Bool) (k : ℕ) : Type 0 where
-  pub is : (o : Object) → beyond S o ≡ true → o.mark ≡ mark → some_of (count_out o.most) o.counts ≡ out →
-      strip_verdict S gridLength o ≡ refused k
+-- The same of every object with these step counts, of which 13 lets up to `most` pass, and with this mark.
+pub record JudgesCounts (S gridLength most : ℕ) (counts : List ℕ) (mark : ℕ) (v : Verdict) : Type 0 where
+  pub is : (o : Object) → o.most ≡ most → o.counts ≡ counts → o.mark ≡ mark → Judges S gridLength o v

@@ -2,14 +2,12 @@
 // refused.
 #![tactic(auto)]
 
-use sheet_program::Report;
-
 fn main(rt: HostRuntime) {
     sheet_program::run(
         rt.stdin(),
         rt.stdout(),
         rt.stderr(),
         b"stroke_sheet",
-        Report::Listing,
+        sheet_program::print_listing,
     );
 }

@@ -8,15 +8,15 @@ use lib.IntN.{ℤ, pos, ◌-ℤ◌}
 use Rattle.integers.specs.Magnitude.{Within}
 use Rattle.integers.proofs.Magnitude.{within_pos}
 use Rattle.cubic.specs.Blend.{samples, surface}
-use Rattle.cubic.specs.Differences.{delta, differences_at, nexts, IsCubic, IsBicubic}
+use Rattle.cubic.specs.Differences.{delta, differences_at, nexts, steps_of, IsCubic, IsBicubic}
 use Rattle.cubic.specs.Room.{Startable, Room}
+use Rattle.cubic.proofs.Orders.{same_orders, every_order, across_orders}
 use Rattle.cubic.proofs.Next.{same_fields, next_differences, nexts_differences}
 use Rattle.cubic.proofs.Rows.{row_delta}
 use Rattle.cubic.proofs.Across.{delta_none, delta_same, delta_less, delta_steps, less_cubic, later_cubic, delta_cubic}
 use Rattle.cubic.proofs.Bounds.{within_fields}
 use Rattle.surface.specs.Surface.{surface_of, start_across, StartsAcross, row_of, next_surface, surface_at, cubic_at, value_at}
-use Rattle.surface.specs.Surface.{steps_of, no_cubic, along_t, along_u, SurfaceRoom, Searchable, Bounded, t_steps, u_steps}
-use Rattle.surface.proofs.Parts.{same_cubics}
+use Rattle.surface.specs.Surface.{no_cubic, along_t, along_u, SurfaceRoom, Searchable, Bounded, t_steps, u_steps}
 
 -- A row's value and differences along t.
 pub row_of_lem : (P : (i j : ℕ) → ℤ) (j : ℕ) → row_of (surface_of P j) ≡ differences_at (λ a. P a j) 0
@@ -28,7 +28,7 @@ pub start_of : (m : ℤ) (f0 f1 f2 f3 : ℕ → ℤ) →
     start_across m (differences_at f0 0) (differences_at f1 0) (differences_at f2 0) (differences_at f3 0) ≡
     surface_of (surface m f0 f1 f2 f3) 0
 unfolding surface_of differences_at delta
-start_of m f0 f1 f2 f3 = same_cubics (across 0) (across 1) (across 2) (across 3)
+start_of m f0 f1 f2 f3 = same_orders across
   where
     across : (k : ℕ) →
         differences_at (samples m (delta k f0 0) (delta k f1 0) (delta k f2 0) (delta k f3 0)) 0 ≡
@@ -37,17 +37,11 @@ start_of m f0 f1 f2 f3 = same_cubics (across 0) (across 1) (across 2) (across 3)
 
 -- What the start along u asks for, of four sequences along t.
 pub starts_across : {m : ℤ} (f0 f1 f2 f3 : ℕ → ℤ) →
-    Room (differences_at f0 0) → Room (differences_at f1 0) → Room (differences_at f2 0) → Room (differences_at f3 0) →
     ((k : ℕ) → k < 4 → Startable m (delta k f0 0) (delta k f1 0) (delta k f2 0) (delta k f3 0)) →
     StartsAcross m (differences_at f0 0) (differences_at f1 0) (differences_at f2 0) (differences_at f3 0)
 unfolding differences_at delta
-starts_across f0 f1 f2 f3 r0 r1 r2 r3 start = record {
-  rooms = (r0, r1, r2, r3);
-  value = start 0 (lit< tt);
-  d1 = start 1 (lit< tt);
-  d2 = start 2 (lit< tt);
-  d3 = start 3 (lit< tt);
-}
+starts_across f0 f1 f2 f3 start =
+    across_orders (λ k. delta k f0 0) (λ k. delta k f1 0) (λ k. delta k f2 0) (λ k. delta k f3 0) start
 
 -- The cubic 0 follows what is 0.
 no_cubic_lem : (j : ℕ) → no_cubic ≡ differences_at (λ b. pos 0) j
@@ -68,17 +62,11 @@ module _ {P : (i j : ℕ) → ℤ} (b : IsBicubic P) where
 
   pub surface_next : (j : ℕ) → next_surface (surface_of P j) ≡ surface_of P (suc j)
   unfolding surface_of
-  surface_next j =
-      same_cubics
-      (next_differences _ j (across_cubic 0)) (next_differences _ j (across_cubic 1))
-      (next_differences _ j (across_cubic 2)) (next_differences _ j (across_cubic 3))
+  surface_next j = same_orders (λ k. next_differences _ j (across_cubic k))
 
   pub surface_at_lem : (j : ℕ) → surface_at (surface_of P 0) j ≡ surface_of P j
   unfolding surface_at surface_of
-  surface_at_lem j =
-      same_cubics
-      (nexts_differences (across_cubic 0) j) (nexts_differences (across_cubic 1) j)
-      (nexts_differences (across_cubic 2) j) (nexts_differences (across_cubic 3) j)
+  surface_at_lem j = same_orders (λ k. nexts_differences (across_cubic k) j)
 
   -- And i samples on in row j are the differences of the row at i.
   sample_at : (i j : ℕ) → cubic_at (surface_of P 0) i j ≡ differences_at (λ a. P a j) i
@@ -93,7 +81,7 @@ module _ {P : (i j : ℕ) → ℤ} (b : IsBicubic P) where
   -- The first differences along t, and along u.
   pub t_steps_of : (j : ℕ) → along_t (surface_of P j) ≡ surface_of (t_steps P) j
   unfolding surface_of
-  t_steps_of j = same_cubics (next 0) (next 1) (next 2) last
+  t_steps_of j = same_fields (next 0) (next 1) (next 2) last
     where
       next : (k : ℕ) →
           differences_at (λ b. delta (suc k) (λ a. P a b) 0) j ≡ differences_at (λ b. delta k (λ a. t_steps P a b) 0) j
@@ -107,7 +95,7 @@ module _ {P : (i j : ℕ) → ℤ} (b : IsBicubic P) where
 
   pub u_steps_of : (j : ℕ) → along_u (surface_of P j) ≡ surface_of (u_steps P) j
   unfolding surface_of
-  u_steps_of j = same_cubics (steps 0) (steps 1) (steps 2) (steps 3)
+  u_steps_of j = same_orders steps
     where
       steps : (k : ℕ) →
           steps_of (differences_at (λ b. delta k (λ a. P a b) 0) j) ≡ differences_at (λ b. delta k (λ a. u_steps P a b) 0) j
@@ -171,10 +159,9 @@ module _ {P : (i j : ℕ) → ℤ} {n m : ℕ} (r : Bounded n m P) where
   -- There is room for the next row, and in a row for the next sample.
   pub surface_room : {j : ℕ} → j ≤ m → SurfaceRoom (surface_of P j)
   unfolding surface_of
-  surface_room {j} hj = record { value = across 0 (lit< tt); d1 = across 1 (lit< tt); d2 = across 2 (lit< tt); d3 = across 3 (lit< tt) }
-    where
-      across : (k : ℕ) → k < 4 → Room (differences_at (λ b. delta k (λ a. P a b) 0) j)
-      across k hk = within_fields _ j (λ q hq. r.within k q 0 j hk hq zero-le hj)
+  surface_room {j} hj =
+      every_order (λ k. differences_at (λ b. delta k (λ a. P a b) 0) j)
+      (λ k hk. within_fields _ j (λ q hq. r.within k q 0 j hk hq zero-le hj))
 
   pub sample_room : {i j : ℕ} → i ≤ n → j ≤ m → Room (differences_at (λ a. P a j) i)
   unfolding delta

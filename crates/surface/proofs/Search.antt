@@ -10,10 +10,8 @@ use Rattle.decide.specs.Some.{some_below}
 use Rattle.decide.proofs.Truth.{either, true_of, false_of}
 use Rattle.decide.proofs.Some.{some_below_lem}
 use Rattle.cubic.specs.Axis.{long_of}
-use Rattle.surface.specs.declared.Surface.{Surface}
-use Rattle.surface.specs.declared.volume.Volume.{Volume}
-use Rattle.surface.specs.Surface.{value_at, some_long}
-use Rattle.surface.specs.Volume.{long_in_slice, long_to_next, long_volume_steps}
+use Rattle.surface.specs.Surface.{Surface, value_at, some_long}
+use Rattle.surface.specs.Volume.{Volume, long_in_slice, long_to_next, long_volume_steps}
 
 module _ (s : Surface) (N : ℤ) (rows samples : ℕ) where
   abbrev test : (i j : ℕ) → Bool

@@ -6,28 +6,25 @@ use lib.Dec.{lit<}
 use lib.IntN.{ℤ}
 use Rattle.cubic.specs.Blend.{samples}
 use Rattle.cubic.specs.Differences.{delta, differences_at, IsBicubic, IsTricubic}
+use Rattle.cubic.proofs.Orders.{same_orders, every_order}
 use Rattle.cubic.proofs.Rows.{row_delta}
 use Rattle.cubic.proofs.Across.{delta_same, delta_less, less_cubic, later_cubic, delta_cubic}
 use Rattle.surface.specs.Surface.{surface_of, start_across, along_u, Bounded}
 use Rattle.surface.specs.Volume.{volume_of, start_volume, slice_of, next_volume, volume_at, along_v, VolumeRoom, VolumeBounded}
 use Rattle.surface.specs.Volume.{slice_at, v_steps}
-use Rattle.surface.proofs.Parts.{same_cubics, same_surfaces}
 use Rattle.surface.proofs.Follows.{row_of_lem, start_of, surface_next, surface_at_lem, u_steps_of, surface_room}
 
 -- The slice at k is the surface of the values there.
 pub slice_of_lem : (Q : (i j k : ℕ) → ℤ) (k : ℕ) → slice_of (volume_of Q k) ≡ surface_of (slice_at Q k) 0
 unfolding volume_of surface_of
-slice_of_lem Q k = same_cubics (row_of_lem (across 0) k) (row_of_lem (across 1) k) (row_of_lem (across 2) k) (row_of_lem (across 3) k)
-  where
-    across : (d b c : ℕ) → ℤ
-    across d b c = delta d (λ a. Q a b c) 0
+slice_of_lem Q k = same_orders (λ d. row_of_lem (λ b c. delta d (λ a. Q a b c) 0) k)
 
 -- The start along v from four surfaces is slice 0 of their volume.
 pub volume_start_of : (l : ℤ) (P0 P1 P2 P3 : (i j : ℕ) → ℤ) →
     start_volume l (surface_of P0 0) (surface_of P1 0) (surface_of P2 0) (surface_of P3 0) ≡
     volume_of (λ i j. samples l (P0 i j) (P1 i j) (P2 i j) (P3 i j)) 0
 unfolding volume_of surface_of
-volume_start_of l P0 P1 P2 P3 = same_surfaces (across 0) (across 1) (across 2) (across 3)
+volume_start_of l P0 P1 P2 P3 = same_orders across
   where
     at : (P : (i j : ℕ) → ℤ) (d b : ℕ) → ℤ
     at P d b = delta d (λ a. P a b) 0
@@ -52,10 +49,7 @@ module _ {Q : (i j k : ℕ) → ℤ} (t : IsTricubic Q) where
 
   pub volume_next : (k : ℕ) → next_volume (volume_of Q k) ≡ volume_of Q (suc k)
   unfolding volume_of
-  volume_next k =
-      same_surfaces
-      (surface_next (across_bicubic 0) k) (surface_next (across_bicubic 1) k)
-      (surface_next (across_bicubic 2) k) (surface_next (across_bicubic 3) k)
+  volume_next k = same_orders (λ d. surface_next (across_bicubic d) k)
 
   -- Each slice is bicubic.
   pub slice_bicubic : (k : ℕ) → IsBicubic (slice_at Q k)
@@ -64,7 +58,7 @@ module _ {Q : (i j k : ℕ) → ℤ} (t : IsTricubic Q) where
   -- The first differences along v, which are tricubic.
   pub v_steps_of : (k : ℕ) → along_v (volume_of Q k) ≡ volume_of (v_steps Q) k
   unfolding volume_of
-  v_steps_of k = same_surfaces (steps 0) (steps 1) (steps 2) (steps 3)
+  v_steps_of k = same_orders steps
     where
       steps : (d : ℕ) →
           along_u (surface_of (λ b c. delta d (λ a. Q a b c) 0) k) ≡ surface_of (λ b c. delta d (λ a. v_steps Q a b c) 0) k
@@ -83,10 +77,7 @@ module _ {Q : (i j k : ℕ) → ℤ} (t : IsTricubic Q) where
   -- After k slices the machine is at slice k, with the surface there and that of the first differences along v.
   pub volume_at_lem : (k : ℕ) → volume_at (volume_of Q 0) k ≡ volume_of Q k
   unfolding volume_at volume_of
-  volume_at_lem k =
-      same_surfaces
-      (surface_at_lem (across_bicubic 0) k) (surface_at_lem (across_bicubic 1) k)
-      (surface_at_lem (across_bicubic 2) k) (surface_at_lem (across_bicubic 3) k)
+  volume_at_lem k = same_orders (λ d. surface_at_lem (across_bicubic d) k)
 
   pub slice_at_lem : (k : ℕ) → slice_of (volume_at (volume_of Q 0) k) ≡ surface_of (slice_at Q k) 0
   slice_at_lem k = ap slice_of (volume_at_lem k) ∙ slice_of_lem Q k
@@ -98,12 +89,8 @@ module _ {Q : (i j k : ℕ) → ℤ} {n m l : ℕ} (r : VolumeBounded n m l Q) w
   -- There is room for the next slice.
   pub volume_room : {k : ℕ} → k ≤ l → VolumeRoom (volume_of Q k)
   unfolding volume_of
-  volume_room hk = record {
-    value = surface_room (across 0 (lit< tt)) hk;
-    d1 = surface_room (across 1 (lit< tt)) hk;
-    d2 = surface_room (across 2 (lit< tt)) hk;
-    d3 = surface_room (across 3 (lit< tt)) hk;
-  }
+  volume_room {k} hk =
+      every_order (λ d. surface_of (λ b c. delta d (λ a. Q a b c) 0) k) (λ d hd. surface_room (across d hd) hk)
     where
       across : (d : ℕ) → d < 4 → Bounded m l (λ b c. delta d (λ a. Q a b c) 0)
       across d hd = record { within = λ k q i j hk hq hi hj. r.within d k q 0 i j hd hk hq zero-le hi hj }

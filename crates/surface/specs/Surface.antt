@@ -3,59 +3,36 @@
 use Rattle.std.specs.Prelude.{Bool, ◌||◌, ℕ, suc, ◌≤◌, ◌<◌, ◌^◌, ℤ, pos, ◌-ℤ◌}
 use Rattle.integers.specs.Magnitude.{Within}
 use Rattle.decide.specs.Some.{some_below}
-use Rattle.cubic.specs.declared.differences.Cubic.{Cubic}
-use Rattle.cubic.specs.Blend.{samples}
-use Rattle.cubic.specs.Differences.{delta, differences_at, next_of, nexts, heads_of}
+use Rattle.cubic.specs.declared.differences.Differences.{Differences}
+use Rattle.cubic.specs.Differences.{Cubic, map, Every, across, Across, orders, shift, delta, differences_at, first_of, next_of, nexts, steps_of}
 use Rattle.cubic.specs.Axis.{long_of}
 use Rattle.cubic.specs.Room.{Startable, Room}
-use Rattle.surface.specs.declared.Surface.{Surface}
+
+abbrev pub Surface : Type 0
+Surface = Differences Cubic
 
 -- The surface of the values P, at row j.
 unfoldable pub surface_of : (P : (i j : ℕ) → ℤ) (j : ℕ) → Surface
-surface_of P j = record {
-  value = differences_at (λ b. delta 0 (λ a. P a b) 0) j;
-  d1 = differences_at (λ b. delta 1 (λ a. P a b) 0) j;
-  d2 = differences_at (λ b. delta 2 (λ a. P a b) 0) j;
-  d3 = differences_at (λ b. delta 3 (λ a. P a b) 0) j;
-}
+surface_of P j = orders (λ k. differences_at (λ b. delta k (λ a. P a b) 0) j)
 
 -- The start along u from four cubics along t, with m steps: each of their numbers is blended.
 abbrev pub start_across : (m : ℤ) (c0 c1 c2 c3 : Cubic) → Surface
-start_across m c0 c1 c2 c3 = record {
-  value = differences_at (samples m c0.value c1.value c2.value c3.value) 0;
-  d1 = differences_at (samples m c0.d1 c1.d1 c2.d1 c3.d1) 0;
-  d2 = differences_at (samples m c0.d2 c1.d2 c2.d2 c3.d2) 0;
-  d3 = differences_at (samples m c0.d3 c1.d3 c2.d3 c3.d3) 0;
-}
+start_across m c0 c1 c2 c3 = across (first_of m) c0 c1 c2 c3
 
 -- The four cubics leave room for it.
-pub record StartsAcross (m : ℤ) (c0 c1 c2 c3 : Cubic) : Type 0 where
-  pub rooms : Room c0 × Room c1 × Room c2 × Room c3
-  pub value : Startable m c0.value c1.value c2.value c3.value
-  pub d1 : Startable m c0.d1 c1.d1 c2.d1 c3.d1
-  pub d2 : Startable m c0.d2 c1.d2 c2.d2 c3.d2
-  pub d3 : Startable m c0.d3 c1.d3 c2.d3 c3.d3
+abbrev pub StartsAcross : (m : ℤ) (c0 c1 c2 c3 : Cubic) → Type 0
+StartsAcross m c0 c1 c2 c3 = Across (Startable m) c0 c1 c2 c3
 
 -- A row's value and differences along t, at t = 0: the values of the four cubics.
 abbrev pub row_of : Surface → Cubic
-row_of s = heads_of s.value s.d1 s.d2 s.d3
+row_of s = map (λ c. c.value) s
 
 -- The next row, by equation 8 along u, and the row after j of them.
 abbrev pub next_surface : Surface → Surface
-next_surface s = record {
-  value = next_of s.value;
-  d1 = next_of s.d1;
-  d2 = next_of s.d2;
-  d3 = next_of s.d3;
-}
+next_surface s = map next_of s
 
 unfoldable pub surface_at : Surface → ℕ → Surface
-surface_at s j = record {
-  value = nexts j s.value;
-  d1 = nexts j s.d1;
-  d2 = nexts j s.d2;
-  d3 = nexts j s.d3;
-}
+surface_at s j = map (nexts j) s
 
 -- The value and differences along t of sample i of row j, by equation 8 along t, and the value alone.
 unfoldable pub cubic_at : Surface → (i j : ℕ) → Cubic
@@ -64,25 +41,16 @@ cubic_at s i j = nexts i (row_of (surface_at s j))
 abbrev pub value_at : Surface → (i j : ℕ) → ℤ
 value_at s i j = (cubic_at s i j).value
 
--- The first differences of a cubic are a cubic, whose own third difference is 0.
-abbrev pub steps_of : Cubic → Cubic
-steps_of c = record { value = c.d1; d1 = c.d2; d2 = c.d3; d3 = pos 0 }
-
 -- The cubic 0.
 abbrev pub no_cubic : Cubic
 no_cubic = record { value = pos 0; d1 = pos 0; d2 = pos 0; d3 = pos 0 }
 
 -- The first differences of a surface along t, and along u.
 abbrev pub along_t : Surface → Surface
-along_t s = record { value = s.d1; d1 = s.d2; d2 = s.d3; d3 = no_cubic }
+along_t s = shift no_cubic s
 
 abbrev pub along_u : Surface → Surface
-along_u s = record {
-  value = steps_of s.value;
-  d1 = steps_of s.d1;
-  d2 = steps_of s.d2;
-  d3 = steps_of s.d3;
-}
+along_u s = map steps_of s
 
 -- Some value of so many rows and samples is beyond 2N.
 unfoldable pub some_long : Surface → (N : ℤ) (rows samples : ℕ) → Bool
@@ -93,11 +61,8 @@ unfoldable pub long_steps : Surface → (N : ℤ) (n m : ℕ) → Bool
 long_steps s N n m = some_long (along_t s) N (suc m) n || some_long (along_u s) N m (suc n)
 
 -- There is room for the next row.
-pub record SurfaceRoom (s : Surface) : Type 0 where
-  pub value : Room s.value
-  pub d1 : Room s.d1
-  pub d2 : Room s.d2
-  pub d3 : Room s.d3
+abbrev pub SurfaceRoom : Surface → Type 0
+SurfaceRoom s = Every Room s
 
 -- There is a row and a sample to search, and room for the test and for the next row and the next sample of each.
 pub record Searchable (s : Surface) (N : ℤ) (rows samples : ℕ) : Type 0 where

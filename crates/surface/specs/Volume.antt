@@ -3,69 +3,44 @@
 use Rattle.std.specs.Prelude.{Bool, ◌||◌, ℕ, suc, ◌≤◌, ◌<◌, ◌^◌, ℤ, ◌-ℤ◌}
 use Rattle.integers.specs.Magnitude.{Within}
 use Rattle.decide.specs.Some.{some_below}
-use Rattle.cubic.specs.declared.differences.Cubic.{Cubic}
-use Rattle.cubic.specs.Differences.{delta}
-use Rattle.surface.specs.declared.Surface.{Surface}
-use Rattle.surface.specs.declared.volume.Volume.{Volume}
-use Rattle.surface.specs.Surface.{surface_of, start_across, StartsAcross, row_of, next_surface, surface_at, along_u, SurfaceRoom}
+use Rattle.cubic.specs.declared.differences.Differences.{Differences}
+use Rattle.cubic.specs.Differences.{map, Every, across, Across, orders, delta}
+use Rattle.surface.specs.Surface.{Surface, surface_of, start_across, StartsAcross, row_of, next_surface, surface_at, along_u, SurfaceRoom}
 use Rattle.surface.specs.Surface.{some_long, long_steps, Searchable, StepsSearchable}
+
+abbrev pub Volume : Type 0
+Volume = Differences Surface
 
 -- The volume of the values Q, at slice k.
 unfoldable pub volume_of : (Q : (i j k : ℕ) → ℤ) (k : ℕ) → Volume
-volume_of Q k = record {
-  value = surface_of (λ b c. delta 0 (λ a. Q a b c) 0) k;
-  d1 = surface_of (λ b c. delta 1 (λ a. Q a b c) 0) k;
-  d2 = surface_of (λ b c. delta 2 (λ a. Q a b c) 0) k;
-  d3 = surface_of (λ b c. delta 3 (λ a. Q a b c) 0) k;
-}
+volume_of Q k = orders (λ d. surface_of (λ b c. delta d (λ a. Q a b c) 0) k)
 
 -- The start along v from four surfaces over t and u, with l steps: each of their numbers is blended.
 abbrev pub start_volume : (l : ℤ) (f0 f1 f2 f3 : Surface) → Volume
-start_volume l f0 f1 f2 f3 = record {
-  value = start_across l f0.value f1.value f2.value f3.value;
-  d1 = start_across l f0.d1 f1.d1 f2.d1 f3.d1;
-  d2 = start_across l f0.d2 f1.d2 f2.d2 f3.d2;
-  d3 = start_across l f0.d3 f1.d3 f2.d3 f3.d3;
-}
+start_volume l f0 f1 f2 f3 = across (start_across l) f0 f1 f2 f3
 
 -- The four surfaces leave room for it.
-pub record StartsVolume (l : ℤ) (f0 f1 f2 f3 : Surface) : Type 0 where
-  pub value : StartsAcross l f0.value f1.value f2.value f3.value
-  pub d1 : StartsAcross l f0.d1 f1.d1 f2.d1 f3.d1
-  pub d2 : StartsAcross l f0.d2 f1.d2 f2.d2 f3.d2
-  pub d3 : StartsAcross l f0.d3 f1.d3 f2.d3 f3.d3
+abbrev pub StartsVolume : (l : ℤ) (f0 f1 f2 f3 : Surface) → Type 0
+StartsVolume l f0 f1 f2 f3 = Across (StartsAcross l) f0 f1 f2 f3
 
 -- The slice, a surface over t and u: the rows of the four surfaces, which are cubics along u.
 abbrev pub slice_of : Volume → Surface
-slice_of v = record { value = row_of v.value; d1 = row_of v.d1; d2 = row_of v.d2; d3 = row_of v.d3 }
+slice_of v = map row_of v
 
 -- The next slice, by equation 8 along v, and the slice after k of them.
 abbrev pub next_volume : Volume → Volume
-next_volume v = record {
-  value = next_surface v.value;
-  d1 = next_surface v.d1;
-  d2 = next_surface v.d2;
-  d3 = next_surface v.d3;
-}
+next_volume v = map next_surface v
 
 unfoldable pub volume_at : Volume → ℕ → Volume
-volume_at v k = record {
-  value = surface_at v.value k;
-  d1 = surface_at v.d1 k;
-  d2 = surface_at v.d2 k;
-  d3 = surface_at v.d3 k;
-}
+volume_at v k = map (λ s. surface_at s k) v
 
 -- The first differences along v.
 abbrev pub along_v : Volume → Volume
-along_v v = record { value = along_u v.value; d1 = along_u v.d1; d2 = along_u v.d2; d3 = along_u v.d3 }
+along_v v = map along_u v
 
 -- There is room for the next slice.
-pub record VolumeRoom (v : Volume) : Type 0 where
-  pub value : SurfaceRoom v.value
-  pub d1 : SurfaceRoom v.d1
-  pub d2 : SurfaceRoom v.d2
-  pub d3 : SurfaceRoom v.d3
+abbrev pub VolumeRoom : Volume → Type 0
+VolumeRoom v = Every SurfaceRoom v
 
 -- Some first difference in slice k is beyond 2N, along t or along u, or some along v from slice k to the next.
 abbrev pub long_in_slice : Volume → (N : ℤ) (n m k : ℕ) → Bool

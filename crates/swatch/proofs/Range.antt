@@ -1,18 +1,15 @@
 -- The channels of a swatch with no refusal lie from 0 to 1, so its cell lies in the cube.
-use mathlib.Core.Path.{◌≡◌, refl, sym, ◌∙◌, subst}
-use mathlib.Core.Bool.{true, ◌&&◌}
-use mathlib.Core.List.{◌++◌}
+use mathlib.Core.Path.{◌≡◌, refl, ◌∙◌, subst}
 use Prim.Native.Nat.{ℕ, ◌<◌}
 use lib.Dec.{T}
 use lib.Ieee.{Float}
-use Rattle.decide.specs.Refusal.{Verdict, first_that, or_else, accepted, refused}
-use Rattle.decide.proofs.Truth.{both}
-use Rattle.decide.proofs.Refusal.{first_append_three, append_passes, accepted_passes, accepted_append_three}
+use Rattle.decide.specs.Refusal.{Verdict, first_that, or_else, accepted, refused, gives, outcome}
+use Rattle.decide.proofs.FirstThat.{answer_given, first_append_three, accepted_passes, accepted_append_three}
 use Rattle.cube.specs.Cube.{side_out}
 use Rattle.cube.proofs.Words.{side_in_lem}
-use Rattle.channel.specs.Channel.{in_range, channel_refusals}
+use Rattle.channel.specs.Channel.{channel_refusals}
 use Rattle.channel.specs.Rgb.{rgb_refusals, AllInRange}
-use Rattle.channel.proofs.Range.{range_accepted, channel_in_range}
+use Rattle.channel.proofs.Range.{channel_in_range}
 use Rattle.channel.proofs.FromBits.{coordinate_below}
 use Rattle.channel.specs.declared.Rgb.{Rgb}
 use Rattle.hsv.proofs.InRange.{channels_in_range, hsv_in_range}
@@ -32,17 +29,6 @@ grey_first g =
     go accepted = refl
     go (refused n) = refl
 
--- Three channels from 0 to 1 have no refusal.
-pub rgb_accepted : (c : Rgb) → (in_range c.red && in_range c.green && in_range c.blue) ≡ true
-    → first_that (rgb_refusals c) ≡ accepted
-rgb_accepted c e =
-    let h = (both (in_range c.red && in_range c.green) (in_range c.blue)).0 (subst T (sym e) tt) in
-    let k = (both (in_range c.red) (in_range c.green)).0 h.0 in
-    let blues = channel_refusals c.blue in
-    append_passes (channel_refusals c.red) (channel_refusals c.green ++ blues) (range_accepted c.red k.0)
-    ∙ append_passes (channel_refusals c.green) blues (range_accepted c.green k.1)
-    ∙ range_accepted c.blue h.1
-
 -- Three channels with no refusal lie from 0 to 1.
 rgb_in_range : (c : Rgb) → first_that (rgb_refusals c) ≡ accepted → AllInRange c
 rgb_in_range c h =
@@ -54,15 +40,15 @@ rgb_in_range c h =
       blue = channel_in_range c.blue r.2;
     }
 
--- A swatch with no refusal, known to be another: that one has none.
-pub accepted_as : {v w : Swatch} → v ≡ w → first_that (swatch_refusals v) ≡ accepted → first_that (swatch_refusals w) ≡ accepted
-accepted_as e h = subst (λ w. first_that (swatch_refusals w) ≡ accepted) e h
-
 -- The channels of a swatch with no refusal lie from 0 to 1.
 pub swatch_in_range : (w : Swatch) → first_that (swatch_refusals w) ≡ accepted → AllInRange (channels_of w)
 swatch_in_range (Color c) h = rgb_in_range c h
 swatch_in_range (Grey g) h = rgb_in_range (channels_of (Grey g)) h
 swatch_in_range (Hue w) h = channels_in_range w (hsv_in_range w h)
+
+-- So do those that are answered for a swatch.
+pub given_in_range : (w : Swatch) {c : Rgb} → gives c ≡ outcome (first_that (swatch_refusals w)) (channels_of w) → AllInRange c
+given_in_range w e = let p = answer_given _ _ e in rw p.1 (swatch_in_range w p.0)
 
 -- The cell of an accepted swatch lies in the cube, so it may be a control point.
 pub cell_in_cube : (S : ℕ) (w : Swatch) (r : Cell) → AcceptedCell S w r → (r.x < S) × (r.y < S) × (r.z < S)

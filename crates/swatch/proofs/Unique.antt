@@ -1,13 +1,12 @@
 -- Each contract fixes its answer: two answers of which it holds are equal.
 use mathlib.Core.Path.{◌≡◌, sym, ◌∙◌, ap}
 use Prim.Native.Nat.{ℕ}
+use Rattle.std.specs.Prelude.{Result, Ok, Err}
+use Rattle.decide.specs.declared.Refusal.{Refusal}
+use Rattle.decide.proofs.Unique.{number_unique}
 use Rattle.channel.specs.declared.Rgb.{Rgb}
 use Rattle.swatch.specs.declared.Cell.{Cell}
 use Rattle.swatch.specs.declared.Swatch.{Swatch}
-use Rattle.swatch.specs.declared.CellAnswer.{CellAnswer}
-use Rattle.swatch.specs.declared.CellAnswer.TheVariants as cell
-use Rattle.swatch.specs.declared.HalfWayAnswer.{HalfWayAnswer}
-use Rattle.swatch.specs.declared.HalfWayAnswer.TheVariants as half
 use Rattle.swatch.specs.ToCell.{IsCell, CellSays}
 use Rattle.swatch.specs.HalfWay.{IsHalfWay, HalfWaySays}
 
@@ -21,11 +20,11 @@ cell_unique S c r t h k =
     e
 
 -- A swatch has one answer at a side.
-pub cell_answer_unique : (S : ℕ) (w : Swatch) (r t : CellAnswer) → CellSays S w r → CellSays S w t → r ≡ t
-cell_answer_unique S w (cell.Refused n) (cell.Refused m) h k = cc
-cell_answer_unique S w (cell.Refused n) (cell.Found d) h k = let e = k.no_number in cc
-cell_answer_unique S w (cell.Found c) (cell.Refused m) h k = let e = h.no_number in cc
-cell_answer_unique S w (cell.Found c) (cell.Found d) h k = ap cell.Found (cell_unique S _ c d h.cell k.cell)
+pub cell_answer_unique : (S : ℕ) (w : Swatch) (r t : Result Cell Refusal) → CellSays S w r → CellSays S w t → r ≡ t
+cell_answer_unique S w (Err d) (Err e) h k = ap Err (number_unique d e cc)
+cell_answer_unique S w (Err d) (Ok c) h k = let e = k.no_number in cc
+cell_answer_unique S w (Ok c) (Err d) h k = let e = h.no_number in cc
+cell_answer_unique S w (Ok c) (Ok d) h k = ap Ok (cell_unique S _ c d h.cell k.cell)
 
 -- Two sets of channels have one half-way.
 pub half_way_unique : (a b r t : Rgb) → IsHalfWay a b r → IsHalfWay a b t → r ≡ t
@@ -38,9 +37,8 @@ half_way_unique a b r t h k =
     e
 
 -- Two swatches have one answer.
-pub half_way_answer_unique : (a b : Swatch) (r t : HalfWayAnswer) → HalfWaySays a b r → HalfWaySays a b t → r ≡ t
-half_way_answer_unique a b (half.Refused n) (half.Refused m) h k = cc
-half_way_answer_unique a b (half.Refused n) (half.Mixed d) h k = let e = k.no_number in cc
-half_way_answer_unique a b (half.Mixed c) (half.Refused m) h k = let e = h.no_number in cc
-half_way_answer_unique a b (half.Mixed c) (half.Mixed d) h k =
-    ap half.Mixed (half_way_unique _ _ c d h.mixed k.mixed)
+pub half_way_answer_unique : (a b : Swatch) (r t : Result Rgb Refusal) → HalfWaySays a b r → HalfWaySays a b t → r ≡ t
+half_way_answer_unique a b (Err d) (Err e) h k = ap Err (number_unique d e cc)
+half_way_answer_unique a b (Err d) (Ok c) h k = let e = k.no_number in cc
+half_way_answer_unique a b (Ok c) (Err d) h k = let e = h.no_number in cc
+half_way_answer_unique a b (Ok c) (Ok d) h k = ap Ok (half_way_unique _ _ c d h.mixed k.mixed)

@@ -1,12 +1,12 @@
 -- Document 01's "swatch to cell": what each answer says.
-use Rattle.std.specs.Prelude.{ℕ, ◌≡◌, List, ◌∷◌}
+use Rattle.std.specs.Prelude.{ℕ, ◌≡◌, List, ◌∷◌, Result, Ok, Err}
 use Rattle.cube.specs.Cube.{side_out}
 use Rattle.decide.specs.Refusal.{Rule, ◌when◌, first_that, accepted, refused}
+use Rattle.decide.specs.declared.Refusal.{Refusal}
+use Rattle.decide.specs.Verdict.{number_of}
 use Rattle.channel.specs.declared.Rgb.{Rgb}
 use Rattle.swatch.specs.declared.Cell.{Cell}
 use Rattle.swatch.specs.declared.Swatch.{Swatch}
-use Rattle.swatch.specs.declared.CellAnswer.{CellAnswer}
-use Rattle.swatch.specs.declared.CellAnswer.TheVariants.{Refused, Found}
 use Rattle.channel.specs.Coordinate.{coordinate_of}
 use Rattle.swatch.specs.Swatch.{channels_of, swatch_refusals}
 
@@ -28,6 +28,6 @@ pub record AcceptedCell (S : ℕ) (w : Swatch) (r : Cell) : Type 0 where
   pub cell : IsCell S (channels_of w) r
 
 -- What an answer says: the first number that applies, or that none does and the cell.
-abbrev pub CellSays : ℕ → Swatch → CellAnswer → Type 0
-CellSays S w (Refused n) = first_that (cell_refusals S w) ≡ refused n
-CellSays S w (Found r) = AcceptedCell S w r
+abbrev pub CellSays : ℕ → Swatch → Result Cell Refusal → Type 0
+CellSays S w (Err e) = first_that (cell_refusals S w) ≡ refused (number_of e)
+CellSays S w (Ok r) = AcceptedCell S w r

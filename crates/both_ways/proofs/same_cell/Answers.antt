@@ -1,14 +1,14 @@
--- `same_cell` meets its contract: each of its three tests is a field of `SameCell`.
-use Rattle.decide.proofs.Truth.{equal}
+-- `same_cell` meets its contract: three bytes are the same where each of them is.
+use Rattle.std.proofs.Common.{◌≡◌, ◌+◌, ◌-◌, ap₂, ◌∙◌, arith, take, drop}
+use lib.Pointwise.{pointwise}
+use lib.Dec.{eqb}
+use Rattle.both_ways.proofs.Same.{cell_same}
 use Rattle.both_ways.proofs.same_cell.Goals as goal
-
-pub returns-then-list-at : goal.returns-then-list-at
-returns-then-list-at c = (λ t. absurd t, λ s. c.if-list-at.true s.x)
-
-pub returns-then-list-at-2 : goal.returns-then-list-at-2
-returns-then-list-at-2 c = (λ t. absurd t, λ s. c.if-list-at-2.true s.y)
 
 pub returns : goal.returns
 returns c =
-    let e = equal _ _ in
-    (λ t. record { x = c.if-list-at.false; y = c.if-list-at-2.false; z = e.0 t }, λ s. e.1 s.z)
+    let a = c.args in
+    let one : a.at + 3 - a.at ≡ 3 = omega arith in
+    let other : a.place + 3 - a.place ≡ 3 = omega arith in
+    cell_same a.list.now a.back.now a.at a.place c.requires.0 c.requires.1 c.eq.result
+    (c.eq.ensures ∙ ap₂ (λ m n. pointwise eqb (take m (drop a.at a.list.now)) (take n (drop a.place a.back.now))) one other)

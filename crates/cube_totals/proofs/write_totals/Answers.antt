@@ -1,29 +1,26 @@
--- `write_totals` meets its contract: it is refused by the number that is answered, and what none refuses is written.
-use borrow.Author.Tests.{ltb-false}
-use native.Mathlib.Nat.{le_trans}
-use native.Mathlib.Omega.{arith}
-use lib.Dec.{ltb}
+-- `write_totals` meets its contract: the number that refuses the cube refuses the call, and of a cube that none refuses the
+-- room decides.
+use borrow.Author.Tests.{lt-ltb, le-ltb}
+use borrow.Author.Rules.{rules}
+use mathlib.Core.Path.{◌≡◌, ◌∙◌}
 use lib.ListN.{length}
-use Rattle.sheet_text.proofs.Writes.{writes_accepted}
-use Rattle.sheet_text.proofs.Refusals.{Passes, none_refuses}
-use Rattle.totals.proofs.Lines.{length_totals_at_most}
+use Rattle.std.specs.Prelude.{Err}
+use Rattle.sheet_text.proofs.Refusals.{cube_refused, room_decides}
+use Rattle.sheet_text.proofs.Writes.{writes_accepted, writes_refused}
 use Rattle.cube_totals.proofs.write_totals.Goals as goal
 
--- A call that no number refuses.
-pub put_totals-requires : goal.put_totals-requires
-put_totals-requires c =
-    let a = c.args in
-    let p : Passes a.side (length a.cube.now) (ltb (length a.text.now) 13056) =
-    none_refuses _ _ _ c.refusal-refusal.ensures c.if-refusal-ne0.false in
-    record {
-      le_side = (p.side_least, p.side_most);
-      cube_len = p.whole;
-      in_bounds = omega (arith, ltb-false _ _ p.room);
-    }
+pub returns-in_err-cube : goal.returns-in_err-cube
+returns-in_err-cube c =
+    let same : c.from_residual.result ≡ Err c.in_err-cube.field-0.0 = search rules in
+    rw same (writes_refused (cube_refused _ _ _ c.in_err-cube.ensures.verdict))
+
+pub returns-then-text-lt13056 : goal.returns-then-text-lt13056
+returns-then-text-lt13056 c =
+    writes_refused (room_decides _ _ _ c.in_ok-cube.ensures.verdict ∙ rw (lt-ltb (length c.args.text.now) 13056 c.if-text-lt13056.true))
 
 pub returns : goal.returns
 returns c =
-    let a = c.args in
-    let p : Passes a.side (length a.cube.now) (ltb (length a.text.now) 13056) =
-    none_refuses _ _ _ c.refusal-refusal.ensures c.if-refusal-ne0.false in
-    writes_accepted p.verdict (le_trans (length_totals_at_most _ _) (ltb-false _ _ p.room)) c.put_totals.ensures
+    let cube = c.in_ok-cube.ensures.cube in
+    writes_accepted
+    (room_decides _ _ _ c.in_ok-cube.ensures.verdict ∙ rw (le-ltb (length c.args.text.now) 13056 c.if-text-lt13056.false))
+    (rw (cube.0, cube.1) at c.put_totals.ensures)

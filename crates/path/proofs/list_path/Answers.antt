@@ -1,15 +1,14 @@
 -- `list_path` meets its contract: the verdict is the check's and then that of the list's length, and an accepted path is listed.
-use Rattle.std.proofs.Common.{◌≡◌, ℕ, ◌*◌, ◌<◌, ◌≤◌, false, ltb, [], length, sym, ap, ◌∙◌, arith, le-ltb}
+use Rattle.std.proofs.Common.{rules, refl, ◌≡◌, ℕ, ◌*◌, ◌<◌, ◌≤◌, false, ltb, [], length, sym, ap, ◌∙◌, arith, le-ltb}
 use Rattle.decide.specs.Refusal.{accepted, refused, gives}
 use Rattle.decide.proofs.Truth.{less, true_of}
-use Rattle.decide.proofs.Refusal.{append_refused, append_passes, first_applies, first_passes, first_empty, answer_refused}
+use Rattle.decide.proofs.FirstThat.{append_refused, append_passes, first_applies, first_passes, first_empty, answer_given, answer_refused}
 use Rattle.drawing.specs.Object.{Object}
 use Rattle.drawing.specs.Refusals.{order, check_verdict}
 use Rattle.drawing.proofs.Listed.{listed_accepted}
 use Rattle.scan.proofs.Orders.{lists_refused}
 use Rattle.curve.specs.declared.Curve.{Curve}
-use Rattle.curve.specs.Curve.{curve_of, check_answer_of}
-use Rattle.curve.proofs.Answers.{not_refused}
+use Rattle.curve.specs.Curve.{curve_of}
 use Rattle.path.specs.Path.{path_length, path_list_verdict, path_listing}
 use Rattle.path.proofs.OfCurve.{path_at_most}
 use Rattle.path.proofs.list_path.Goals as goal
@@ -35,17 +34,16 @@ module _ (S : ℕ) (o : Object) (len : ℕ) where
         first_passes 22 (ltb len (3 * path_length o)) [] (le-ltb len (3 * path_length o) h) ∙ first_empty
 
 pub count_cells-requires : goal.count_cells-requires
-count_cells-requires c = not_refused c.check_curve.result _ _ c.in_default.not-Refused c.check_curve.ensures
+count_cells-requires c = (answer_given _ _ c.in_ok-check_curve.ensures).0
 
 pub returns-then-list-count_cells : goal.returns-then-list-count_cells
 returns-then-list-count_cells c =
     lists_refused (path_listing c.args.side (curve_of c.args.curve)) c.args.list.now
-    (too_short _ _ _ (not_refused c.check_curve.result _ _ c.in_default.not-Refused c.check_curve.ensures)
-    (rw c.count_cells.ensures at c.if-list-count_cells.true))
+    (too_short _ _ _ (answer_given _ _ c.in_ok-check_curve.ensures).0 (rw c.count_cells.ensures at c.if-list-count_cells.true)) refl
 
 pub list_cells-requires : goal.list_cells-requires
 list_cells-requires c = record {
-  curve_value = not_refused c.check_curve.result _ _ c.in_default.not-Refused c.check_curve.ensures;
+  curve_value = (answer_given _ _ c.in_ok-check_curve.ensures).0;
   curve_in_bounds =
       let n : Curve = c.args.curve in
       elim c.else-list-most.branch [
@@ -55,14 +53,14 @@ list_cells-requires c = record {
       ];
 }
 
-pub returns-in-Refused : goal.returns-in-Refused
-returns-in-Refused c =
+pub returns-in_err-check_curve : goal.returns-in_err-check_curve
+returns-in_err-check_curve c =
     lists_refused (path_listing c.args.side (curve_of c.args.curve)) c.args.list.now
-    (check_refused _ _ _ (answer_refused _ _ (sym (ap check_answer_of c.in-Refused.is) ∙ c.check_curve.ensures)))
+    (check_refused _ _ _ (answer_refused _ _ c.in_err-check_curve.ensures)) (search rules)
 
-pub returns-else-list-most : goal.returns-else-list-most
+pub returns : goal.returns
 unfolding path_length
-returns-else-list-most c =
+returns c =
     let S = c.args.side in
     let n : Curve = c.args.curve in
     let list = c.args.list.now in
@@ -72,9 +70,7 @@ returns-else-list-most c =
       | else-list-most-via-else-list-most w ↦
           omega (arith, w.if-list-most.false, path_at_most n.steps n.points n.mark n.choice)
     ] in
-    let e =
-    long_enough S (curve_of n) (length list) (not_refused c.check_curve.result _ _ c.in_default.not-Refused c.check_curve.ensures)
-    room in
+    let e = long_enough S (curve_of n) (length list) (answer_given _ _ c.in_ok-check_curve.ensures).0 room in
     record {
       answer = rw e (ap gives c.list_cells.ensures.value);
       leaves = c.list_cells.ensures.list_after ∙ sym (listed_accepted (path_listing S (curve_of n)) list e);

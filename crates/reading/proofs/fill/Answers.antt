@@ -1,36 +1,44 @@
 -- `fill` meets its contract: the loop has made reads one after the other, each of some bytes, and the read that ends it
--- puts none.
-use Rattle.std.proofs.Common.{◌≡◌, refl, sym, ◌∙◌, ap, ap₂, ◌+◌, ◌-◌, ◌≤◌, length, arith, to_z}
-use mir.Syntax.{w64}
-use mir.Facts.{to_z-of_z}
-use Rattle.reading.specs.declared.Input.{Input}
-use Rattle.reading.specs.Read.{input_of, none, more, ended}
-use Rattle.reading.proofs.Filled.{clamped_most, rest_length}
+-- puts none or fails.
+use Rattle.std.proofs.Common.{◌≡◌, ◌∙◌, refl, arith, ℕ, ◌-◌, ◌≤◌, length, List, Result, Ok, length-take, length-drop}
+use borrow.Rule.Slice.PartMut.{put_mid, same_len_mid, mid_of}
+use Rattle.std.proofs.lemmas.Slice.{take-put_mid_below}
+use Rattle.reading.specs.Read.{ReadAt, Moved, none, more, full, ended, failed}
 use Rattle.reading.proofs.fill.Goals as goal
+
+length-mid_of : (at : ℕ) (held : List ℕ) → at ≤ length held → length (mid_of at (length held - at) held) ≡ length held - at
+length-mid_of at held room = simp (length-take, length-drop) (omega arith)
+
+-- A read that is lent what stands from byte at on.
+read_at : (at : ℕ) (held put : List ℕ) (got : Result ℕ (Unit {0})) → at ≤ length held → length put ≡ length (mid_of at (length held - at) held) →
+    Moved (length held - at) got → ReadAt held at got (put_mid at (length held - at) held put)
+read_at at held put got room long moved = record {
+  same = same_len_mid at (length held - at) held put long;
+  kept = take-put_mid_below at (length held - at) held put at (omega arith) room;
+  moved = moved;
+}
 
 pub loop-done-init : goal.loop-done-init
 loop-done-init g c = (refl, omega arith, none)
 
-pub returns-then-input-eq0 : goal.returns-then-input-eq0
-returns-then-input-eq0 g c =
-    let s : c.answered-input.result ≡ input_of c.read_at-got.result (length c.loop-done.buf - c.loop-done.done) =
-    c.answered-input.ensures ∙
-    ap₂ input_of (to_z-of_z {w = w64} {z = c.read_at-got.result} (record { sfits = c.read_at-got.type_inv }))
-    (rest_length c.read_at-got.new.buf c.loop-done.done ∙ ap (◌- c.loop-done.done) c.read_at-got.ensures.same) in
-    ended c.loop-done.invariant.2 (omega arith) c.read_at-got.ensures
-    (sym (ap (λ (i : Input). i.count) s) ∙ c.if-input-eq0.true)
-    (ap (λ (i : Input). i.failed) s)
+pub returns-in-Ok-eq0 : goal.returns-in-Ok-eq0
+returns-in-Ok-eq0 g c =
+    let l = c.loop-done in
+    ended l.invariant.2 c.loop-done-test.true (read_at l.done l.buf _ _ l.invariant.1 c.read.auto.buf (omega arith))
 
 pub loop-done-preserved : goal.loop-done-preserved
 loop-done-preserved g c =
-    let says : c.answered-input.result ≡ input_of c.read_at-got.result (length c.loop-done.buf - c.loop-done.done) =
-    c.answered-input.ensures ∙
-    ap₂ input_of (to_z-of_z {w = w64} {z = c.read_at-got.result} (record { sfits = c.read_at-got.type_inv }))
-    (rest_length c.read_at-got.new.buf c.loop-done.done ∙ ap (◌- c.loop-done.done) c.read_at-got.ensures.same) in
     let l = c.loop-done in
-    let s = ap (λ (i : Input). i.count) says in
-    let r = c.read_at-got.ensures in (
-      r.same ∙ l.invariant.0,
-      omega (arith, r.same, s, clamped_most c.read_at-got.result (length c.loop-done.buf - c.loop-done.done)),
-      rw s (more l.invariant.2 r (omega (arith, s))),
-    )
+    let long = c.read.auto.buf in
+    let room : c.in-Ok.count ≤ length (mid_of l.done (length l.buf - l.done) l.buf) = omega (arith, c.in-Ok.ensures.bound.0) in
+    let fits : c.in-Ok.count ≤ length l.buf - l.done = omega (arith, length-mid_of l.done l.buf l.invariant.1) in
+    let one = read_at l.done l.buf c.read.new.buf (Ok c.in-Ok.count) l.invariant.1 long fits in
+    (one.same ∙ l.invariant.0, omega (arith, one.same), more l.invariant.2 one (omega arith))
+
+pub returns-in-Err : goal.returns-in-Err
+returns-in-Err g c =
+    let l = c.loop-done in
+    failed l.invariant.2 c.loop-done-test.true (read_at l.done l.buf _ _ l.invariant.1 c.read.auto.buf tt)
+
+pub returns : goal.returns
+returns g c = full c.loop-done.invariant.2 (omega arith)

@@ -4,11 +4,9 @@ use mathlib.Core.List.{List}
 use Prim.Native.Nat.{ℕ, ◌+◌, ◌*◌, ◌≤◌}
 use native.Mathlib.Omega.{arith}
 use lib.IntN.{ℤ, pos}
-use Rattle.cubic.specs.declared.differences.Cubic.{Cubic}
-use Rattle.cubic.specs.Differences.{differences_at}
+use Rattle.cubic.specs.Differences.{Cubic, differences_at}
 use Rattle.cubic.proofs.Fits.{read}
-use Rattle.surface.specs.declared.Surface.{Surface}
-use Rattle.surface.specs.Surface.{surface_of, start_across, StartsAcross}
+use Rattle.surface.specs.Surface.{Surface, surface_of, start_across, StartsAcross}
 use Rattle.scan.specs.Column.{doubled_column}
 use Rattle.scan.proofs.Natural.{answer_read}
 use Rattle.surface.proofs.Follows.{start_of}
@@ -34,11 +32,11 @@ steps e h = answer_read e (omega arith)
 
 pub start-requires : goal.start-requires
 start-requires c =
-    starts c.requires (steps c.count.ensures c.requires.m_most)
+    starts c.requires (steps c.from.ensures c.requires.m_most)
     c.start_column-c0.ensures c.start_column-c1.ensures c.start_column-c2.ensures c.start_column-c3.ensures
 
 pub returns : goal.returns
 returns c =
-    started c.requires (steps c.count.ensures c.requires.m_most)
+    started c.requires (steps c.from.ensures c.requires.m_most)
     c.start_column-c0.ensures c.start_column-c1.ensures c.start_column-c2.ensures c.start_column-c3.ensures
     c.start.ensures

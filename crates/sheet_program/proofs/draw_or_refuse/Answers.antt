@@ -5,6 +5,8 @@ use mathlib.Core.List.{List}
 use Prim.Native.Nat.{ℕ, ◌≤◌}
 use native.Mathlib.Omega.{arith}
 use lib.ListN.{length}
+use Rattle.std.specs.Prelude.{Result, Ok, Err}
+use Rattle.decide.specs.declared.Refusal.{Refusal}
 use Rattle.decide.specs.Refusal as refusal
 use Rattle.decide.specs.Refusal.{first_that}
 use Rattle.sheet.specs.Sheet.{judge}
@@ -13,17 +15,16 @@ use Rattle.sheet.specs.Call.{Said, drew, refused, said, buffer_after}
 use Rattle.sheet.specs.Part.{over, line_order}
 use Rattle.sheet.proofs.Sheet.{bad_small}
 use Rattle.sheet.proofs.Refused.{line_accepted}
-use Rattle.sheet_cube.specs.declared.Answer.{Answer}
+use Rattle.sheet_cube.specs.declared.Sheet.{Sheet}
+use Rattle.sheet_cube.specs.declared.LineRefusal.{LineRefusal}
 use Rattle.sheet_cube.specs.Answer.{said_of, DrawsSheet}
 use Rattle.sheet_cube.proofs.Drawing.{is_good_lem}
 use Rattle.sheet_cube.proofs.Called.{buffer_good, is_bad_lem, found_said}
-use Rattle.sheet_text.specs.declared.Written.{Written}
 use Rattle.sheet_text.specs.Writes.{Writes}
-use Rattle.sheet_program.specs.declared.Drawing.TheVariants.{Cube, Line}
 use Rattle.sheet_program.specs.Draws.{drawing_of, text_after, DrawsOrRefuses}
 use Rattle.sheet_program.proofs.draw_or_refuse.Goals as goal
 
-module _ {input buffer bufferNow : List ℕ} {a : Answer} (d : DrawsSheet input buffer bufferNow a)
+module _ {input buffer bufferNow : List ℕ} {a : Result Sheet LineRefusal} (d : DrawsSheet input buffer bufferNow a)
     (whole : length buffer ≡ 64000) where
   judged : {s : Said} → said_of a ≡ s → said (judge input) ≡ s
   judged e = ap said (sym (buffer_good input buffer whole)) ∙ sym d.answer ∙ e
@@ -32,15 +33,15 @@ module _ {input buffer bufferNow : List ℕ} {a : Answer} (d : DrawsSheet input 
   leaves = d.leaves ∙ ap (λ j. buffer_after j buffer) (buffer_good input buffer whole)
 
   -- The sheet is drawn,
-  draws : {S n new : ℕ} → said_of a ≡ drew S n new → (text : List ℕ) → DrawsOrRefuses input buffer bufferNow text text (Cube S)
+  draws : {S n new : ℕ} → said_of a ≡ drew S n new → (text : List ℕ) → DrawsOrRefuses input buffer bufferNow text text (Ok S)
   draws e text =
       let j = sym (is_good_lem (judge input) (found_said (judge input) (judged e))).good in
       record { answer = ap drawing_of j; leaves = leaves; writes = ap (λ i. text_after i text) j }
 
   -- or it is refused, and the line is written.
-  refuses : {n k : ℕ} → said_of a ≡ refused n k → {text after : List ℕ} {w : Written} → 18 ≤ length text →
+  refuses : {n k : ℕ} → said_of a ≡ refused n k → {text after : List ℕ} {w : Result ℕ Refusal} → 18 ≤ length text →
       Writes (first_that (line_order n k (length text))) (refusal_line n k) text after w →
-      DrawsOrRefuses input buffer bufferNow text after (Line 18)
+      DrawsOrRefuses input buffer bufferNow text after (Err 18)
   refuses {n} {k} e {text} room w =
       let j = sym (is_bad_lem (judge input) (found_said (judge input) (judged e))) in
       let small = bad_small input (sym j) in
@@ -51,10 +52,10 @@ module _ {input buffer bufferNow : List ℕ} {a : Answer} (d : DrawsSheet input 
         writes = w.leaves ∙ ap (λ u. refusal.leaves u (over (refusal_line n k) text) text) v ∙ ap (λ i. text_after i text) j;
       }
 
-pub returns-in-Drawn : goal.returns-in-Drawn
-returns-in-Drawn c = draws c.draw_sheet.ensures c.requires.buffer_len (ap said_of c.in-Drawn.is) _
+pub returns-in-Ok : goal.returns-in-Ok
+returns-in-Ok c = draws c.draw_sheet.ensures c.told-buffer (ap said_of c.in-Ok.is) _
 
-pub returns-in-Refused : goal.returns-in-Refused
-returns-in-Refused c =
-    refuses c.draw_sheet.ensures c.requires.buffer_len (ap said_of c.in-Refused.is) c.requires.in_bounds
-    c.refusal_line.ensures
+pub returns-in-Err : goal.returns-in-Err
+returns-in-Err c =
+    refuses c.draw_sheet.ensures c.told-buffer (ap said_of c.in-Err.is) c.requires
+    (rw c.from.ensures at c.refusal_line.ensures)

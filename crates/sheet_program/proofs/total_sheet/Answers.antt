@@ -1,29 +1,24 @@
 -- `total_sheet` meets its contract: a drawn sheet's cube lies within the buffer, and the text has room for its totals.
-use Rattle.std.proofs.Common.{◌∙◌, sym, arith}
+use Rattle.std.proofs.Common.{◌∙◌, arith}
 use Rattle.sheet_program.proofs.Drawn.{drawn, taken}
 use Rattle.sheet_program.proofs.Totalled.{totalled, line_told}
 use Rattle.sheet_program.proofs.total_sheet.Goals as goal
 
 pub cells-cells-requires : goal.cells-cells-requires
-cells-cells-requires c = (drawn c.draw_or_refuse.ensures c.in-Cube.is).side_most
+cells-cells-requires c = (drawn c.draw_or_refuse.ensures c.in-Ok.is).side_most
 
-pub slice_bounds-put_totals-end : goal.slice_bounds-put_totals-end
-slice_bounds-put_totals-end c = rw c.cells-cells.ensures (drawn c.draw_or_refuse.ensures c.in-Cube.is).within
+pub shared_ref_as_front-cube : goal.shared_ref_as_front-cube
+shared_ref_as_front-cube c = rw c.cells-cells.ensures (drawn c.draw_or_refuse.ensures c.in-Ok.is).small
 
-pub slice_bounds-put_totals-end-in-Cube : goal.slice_bounds-put_totals-end-in-Cube
-slice_bounds-put_totals-end-in-Cube c = sym (taken (drawn c.draw_or_refuse.ensures c.in-Cube.is) c.cells-cells.ensures)
+pub invariant_of-cube : goal.invariant_of-cube
+invariant_of-cube c =
+    let d = drawn c.draw_or_refuse.ensures c.in-Ok.is in record {
+      side_in = (d.side_least, omega (arith, d.side_most));
+      whole = taken d c.cells-cells.ensures ∙ c.cells-cells.ensures;
+    }
 
-pub put_totals-requires-clause-le_side : goal.put_totals-requires-clause-le_side
-put_totals-requires-clause-le_side c =
-    let d = drawn c.draw_or_refuse.ensures c.in-Cube.is in (d.side_least, omega (arith, d.side_most))
+pub returns-in-Ok : goal.returns-in-Ok
+returns-in-Ok c = totalled c.draw_or_refuse.ensures c.in-Ok.is (rw c.cells-cells.ensures at c.put_totals.ensures)
 
-pub put_totals-requires-clause-cube_len : goal.put_totals-requires-clause-cube_len
-put_totals-requires-clause-cube_len c =
-    taken (drawn c.draw_or_refuse.ensures c.in-Cube.is) c.cells-cells.ensures ∙ c.cells-cells.ensures
-
-pub returns-in-Cube : goal.returns-in-Cube
-returns-in-Cube c =
-    totalled c.draw_or_refuse.ensures c.in-Cube.is c.requires.in_bounds (rw c.cells-cells.ensures at c.put_totals.ensures)
-
-pub returns-in-Line : goal.returns-in-Line
-returns-in-Line c = line_told c.draw_or_refuse.ensures c.in-Line.is
+pub returns-in-Err : goal.returns-in-Err
+returns-in-Err c = line_told c.draw_or_refuse.ensures c.in-Err.is

@@ -3,17 +3,17 @@
 use borrow.Author.Tests.{lt-ltb, le-ltb}
 use mathlib.Core.Path.{◌≡◌, refl, ◌∙◌}
 use mathlib.Core.Bool.{true, false, ◌||◌}
-use Prim.Native.Nat.{ℕ, ◌≤◌, ◌<◌}
+use mathlib.Core.List.{[], ◌∷◌, ◌++◌}
+use Prim.Native.Nat.{ℕ, ◌≤◌}
 use native.Mathlib.Omega.{arith}
 use lib.Dec.{ltb}
-use lib.ListN.{length}
-use Rattle.decide.proofs.Refusal.{first_applies, first_passes, first_empty}
-use Rattle.sheet.specs.Line.{in_line}
+use lib.ListN.{length, drop}
+use Rattle.decide.proofs.FirstThat.{first_applies, first_passes, first_empty}
 use Rattle.sheet.specs.Printed.{refusal_line}
 use Rattle.sheet.specs.Part.{line_order}
-use Rattle.sheet.proofs.Printed.{length_refusal_line}
 use Rattle.sheet_text.specs.Puts.{Puts}
-use Rattle.sheet_text.proofs.Puts.{puts_byte, puts_append, puts_next}
+use Rattle.sheet_text.proofs.Line.{line_after, number_next, feed_next}
+use Rattle.sheet_text.proofs.Puts.{puts_length}
 use Rattle.sheet_text.proofs.Writes.{writes_accepted, writes_refused}
 use Rattle.sheet_text.proofs.refusal_line.Goals as goal
 use Rattle.sheet_text.proofs.refusal_line.Goals.{then-number-gt99999-via-then-number-gt99999, then-number-gt99999-via-else-number-gt99999+then-line-gt99999}
@@ -42,14 +42,15 @@ returns-then-text-lt18 c =
     first_applies 22 _ _ (lt-ltb _ _ c.if-text-lt18.true))
 
 pub returns : goal.returns
-unfolding line_order refusal_line in_line
+unfolding line_order refusal_line
 returns c =
     let a = c.args in
     let long : 18 ≤ length a.text.now = c.if-text-lt18.false in
-    let whole : Puts (refusal_line a.number a.line) 0 a.text.now _ 18 =
-    puts_append (puts_next c.put_bytes.ensures refl)
-    (puts_append c.put_columns.ensures (puts_append c.put_columns-2.ensures (puts_byte refl))) in
+    let word : Puts (82 ∷ 69 ∷ 70 ∷ 85 ∷ 83 ∷ 69 ∷ 68 ∷ []) a.text.now (c.copy_from_slice.new.self ++ drop 7 a.text.now) 7 =
+    record { holds = rw c.copy_from_slice.ensures.after refl; counts = refl } in
     writes_accepted
     (first_passes 54 _ _ (within _ _ c.if-number-gt99999.false c.if-line-gt99999.false) ∙
     first_passes 22 _ _ (le-ltb _ _ long) ∙ first_empty)
-    (rw length_refusal_line long) whole
+    (feed_next (omega arith)
+    (number_next (omega arith) c.put_columns-2.ensures
+    (number_next (omega arith) c.put_columns.ensures (line_after word (puts_length word (omega arith))))))

@@ -8,20 +8,18 @@ use native.Mathlib.Omega.{arith}
 use lib.Dec.{lit<}
 use lib.IntN.{ℤ}
 use mir.Facts.{to_z-of_z}
-use Rattle.cubic.specs.declared.differences.Cubic.{Cubic}
-use Rattle.cubic.specs.Differences.{next_of, nexts}
+use Rattle.cubic.specs.Differences.{Cubic, next_of, nexts}
 use Rattle.cubic.specs.Axis.{long_of}
 use Rattle.cubic.specs.Room.{Room}
 use Rattle.cubic.proofs.Fits.{read, held}
-use Rattle.surface.specs.declared.Surface.{Surface}
-use Rattle.surface.specs.Surface.{row_of, next_surface, surface_at, cubic_at, value_at, Searchable}
+use Rattle.surface.specs.Surface.{Surface, row_of, next_surface, surface_at, cubic_at, value_at, Searchable}
 use Rattle.surface.proofs.Search.{found, nowhere}
 use Rattle.surface.proofs.some_long.Invariants.{AtRow, AtSample}
 use Rattle.surface.proofs.some_long.Goals as goal
 
 -- At sample i of row j, with what the test answers.
-module _ {s rest : Surface} {N scale : ℤ} {rows samples j i : ℕ} {f g : Bool} {row : Cubic}
-    (p : Searchable s scale rows samples) (a : AtRow s N rows samples f rest j) (b : AtSample rest N samples g row i) where
+module _ {s rest : Surface} {N scale : ℤ} {rows samples j i : ℕ} {row : Cubic}
+    (p : Searchable s scale rows samples) (a : AtRow s N rows samples rest j) (b : AtSample rest N samples row i) where
   -- A value of the row is the surface's.
   in_row : (k : ℕ) → long_of N (nexts k (row_of rest)).value ≡ long_of N (value_at s k j)
   unfolding cubic_at
@@ -47,18 +45,16 @@ module _ {s rest : Surface} {N scale : ℤ} {rows samples j i : ℕ} {f g : Bool
 pub search-init : goal.search-init
 unfolding surface_at nexts
 search-init c = record {
-  not_found = refl;
   within = c.requires.some_row;
   rest_is = refl;
   passed = λ b h. absurd (omega arith);
 }
 
-pub loop-found-init : goal.loop-found-init
+pub loop-rest-init : goal.loop-rest-init
 unfolding nexts
-loop-found-init c = record {
-  not_found = c.search.invariant.not_found;
+loop-rest-init c = record {
   within = c.requires.some-sample;
-  row_is = c.row-row.ensures;
+  row_is = c.slice-row.ensures;
   passed = λ k h. absurd (omega arith);
 }
 
@@ -66,15 +62,14 @@ pub is_long-requires : goal.is_long-requires
 is_long-requires c = rw (to_z-of_z c.ranges.scale) c.requires.scale
 
 pub next-row-requires : goal.next-row-requires
-next-row-requires c = row_room c.requires c.search.invariant c.loop-found.invariant
+next-row-requires c = row_room c.requires c.search.invariant c.loop-rest.invariant
 
 -- A further sample.
-pub loop-found-preserved : goal.loop-found-preserved
+pub loop-rest-preserved : goal.loop-rest-preserved
 unfolding nexts
-loop-found-preserved c =
-    let b = c.loop-found.invariant in
+loop-rest-preserved c =
+    let b = c.loop-rest.invariant in
     record {
-      not_found = b.not_found;
       within = omega (arith, b.within, c.if-i-last.false);
       row_is = rw add-one (c.next-row.ensures ∙ ap next_of b.row_is);
       passed = passed c.requires c.search.invariant b c.is_long.ensures c.if-is_long.false;
@@ -89,9 +84,8 @@ pub search-preserved : goal.search-preserved
 unfolding surface_at nexts
 search-preserved c =
     let a = c.search.invariant in
-    let b = c.loop-found.invariant in
+    let b = c.loop-rest.invariant in
     record {
-      not_found = b.not_found;
       within = omega (arith, a.within, c.if-j-last_row.false);
       rest_is = rw add-one (c.next-rest.ensures ∙ ap next_surface a.rest_is);
       passed =
@@ -103,18 +97,17 @@ pub returns-then-is_long : goal.returns-then-is_long
 returns-then-is_long c =
     let s = c.args in
     let a = c.search.invariant in
-    let b = c.loop-found.invariant in
+    let b = c.loop-rest.invariant in
     sym (found s.surface s.scale s.rows s.samples b.within a.within
     (rw (to_z-of_z c.ranges.scale)
-    at (sym (in_row c.requires a b c.loop-found.i) ∙ sym (tested c.requires a b c.is_long.ensures) ∙
+    at (sym (in_row c.requires a b c.loop-rest.i) ∙ sym (tested c.requires a b c.is_long.ensures) ∙
     c.if-is_long.true)))
 
 pub returns-then-j-last_row : goal.returns-then-j-last_row
 returns-then-j-last_row c =
     let s = c.args in
     let a = c.search.invariant in
-    let b = c.loop-found.invariant in
-    b.not_found ∙
+    let b = c.loop-rest.invariant in
     sym (nowhere s.surface s.scale s.rows s.samples
     (λ q hq k hk. rw (to_z-of_z c.ranges.scale)
     at (below_more _ _ a.passed

@@ -1,5 +1,5 @@
--- `number` meets its contract and ends: after i digits the value is that of the first i, which i digits can hold.
-use Rattle.std.proofs.Common.{◌≡◌, ℕ, ◌+◌, ◌-◌, ◌*◌, ◌^◌, ◌<◌, ◌≤◌, List, get_or, add-one, arith}
+-- `number` meets its contract: after i digits the value is that of the first i, which i digits can hold.
+use Rattle.std.proofs.Common.{◌≡◌, ℕ, ◌+◌, ◌*◌, ◌^◌, ◌<◌, ◌≤◌, List, get_or, add-one, arith}
 use native.Mathlib.Nat.{pow-le-pow_right}
 use Rattle.cases.specs.Record.{digit_of, value_at}
 use Rattle.cases.proofs.record.number.Given as goal
@@ -15,7 +15,4 @@ room value i h v =
     omega arith
 
 abbrev pub invariant-loop-i : goal.invariant-loop-i
-invariant-loop-i l = (l.at ≡ 9 * l.k + 1) × (l.i ≤ 8) × (l.value ≡ value_at l.case l.at l.i) × (l.value < 16 ^ l.i)
-
-abbrev pub decreases-loop-i : goal.decreases-loop-i
-decreases-loop-i l = 8 - l.i
+invariant-loop-i l = (l.i ≤ 8) × (l.value ≡ value_at l.case l.at l.i) × (l.value < 16 ^ l.i)

@@ -7,5 +7,5 @@ use Rattle.cube_totals.proofs.tally.add.Goals as goal
 pub returns : goal.returns
 returns c =
     let a = c.args in
-    rw (c.add_at-2.ensures, c.add_at.ensures, c.wide.ensures.0)
-    (both_words a.table.now (4 * a.mark + 2 * (a.x % 2)) (1 + two_to32 * a.x) (a.y + two_to32 * a.z))
+    rw c.from.ensures
+    (both_words a.table.now (4 * a.mark + 2 * (a.x % 2)) (1 + two_to32 * a.x) (a.row.y + two_to32 * a.row.z))

@@ -1,9 +1,7 @@
 -- `add_row` meets its contract: after x turns the first x cells are added, and the bound on the numbers has risen with each.
-use borrow.Author.Rules.{rules}
-use mathlib.Core.Path.{◌≡◌, refl, sym, ◌∙◌, ap}
+use mathlib.Core.Path.{◌≡◌, sym, ◌∙◌, ap}
 use mathlib.Core.List.{List}
-use Prim.Native.Nat.{ℕ, ◌+◌, ◌-◌, ◌*◌, ◌^◌, ◌≤◌, ◌<◌}
-use native.Mathlib.Nat.{add_assoc}
+use Prim.Native.Nat.{ℕ, ◌+◌, ◌*◌, ◌^◌, ◌≤◌, ◌<◌}
 use native.Mathlib.Numerals.{add-one}
 use native.Mathlib.Omega.{arith}
 use lib.ListN.{length, get_or, take}
@@ -45,6 +43,3 @@ room s size = below_more (2 ^ 61) (omega (arith, s.within)) s.below
 
 abbrev pub invariant-loop-x : goal.invariant-loop-x
 invariant-loop-x l = SoFar l.marks l.row l.initial.table l.table l.x
-
-abbrev pub decreases-loop-x : goal.decreases-loop-x
-decreases-loop-x l = length l.marks - l.x

@@ -1,41 +1,72 @@
 -- `tally` meets its contract: before each row the table is that of the bytes before it.
-use mathlib.Core.Path.{◌≡◌, ap}
-use mathlib.Core.List.{List}
-use Prim.Native.Nat.{ℕ, ◌+◌, ◌-◌, ◌*◌, ◌≤◌, ◌<◌}
+use mathlib.Core.Path.{◌≡◌, refl, sym, ◌∙◌, ap}
+use mathlib.Core.List.{List, ◌++◌}
+use Prim.Native.Nat.{ℕ, ◌+◌, ◌*◌, ◌≤◌, ◌<◌}
 use native.Mathlib.Nat.{mul-le-mul_left}
 use native.Mathlib.Omega.{arith}
-use lib.ListN.{length, take, drop, length-take}
-use lib.Seq.{take_all}
+use lib.ListN.{length, take, drop, length-drop, length-append}
+use lib.Seq.{take_all, take_at, drop_at, drop-drop}
 use Rattle.cube.specs.Cube.{volume}
+use Rattle.totals.specs.Sums.{Bytes}
 use Rattle.cube_totals.specs.declared.tally.Row.{Row}
-use Rattle.cube_totals.specs.Table.{Table}
-use Rattle.cube_totals.specs.Next.{row_number}
-use Rattle.cube_totals.proofs.Table.{none_yet, row_added, table_below}
+use Rattle.cube_totals.specs.Table.{Table, added_row}
+use Rattle.cube_totals.specs.Next.{row_number, Next}
+use Rattle.cube_totals.proofs.Table.{row_added}
 use Rattle.cube_totals.proofs.tally.tally.Given as goal
 
--- The table of the first p bytes, and the row that begins at byte p.
-pub record SoFar (S : ℕ) (cube table : List ℕ) (r : Row) (p : ℕ) : Type 0 where
-  pub within : p ≤ length cube
-  pub stands : p ≡ S * row_number S r
-  pub y_in : r.y < S
-  pub tallied : Table S (take p cube) table
+-- The byte at which a row begins.
+abbrev pub begins : (S : ℕ) → Row → ℕ
+begins S r = S * row_number S r
 
--- While a byte is left, a whole row is, and it is one of the cube.
-module _ {S : ℕ} {cube table : List ℕ} {r : Row} {p : ℕ} (s : SoFar S cube table r p) (size : length cube ≡ volume S)
-    (l : p < length cube) where
-  pub few : row_number S r < S * S
-  few =
-      let g : ¬ (S * S ≤ row_number S r) = λ h. omega (arith, mul-le-mul_left S h, s.stands) in
+-- The table of the bytes before a row, and those from it on are left.
+pub record SoFar (S : ℕ) (cube table rest : List ℕ) (r : Row) : Type 0 where
+  pub within : begins S r ≤ length cube
+  pub y_in : r.y < S
+  pub left : rest ≡ drop (begins S r) cube
+  pub tallied : Table S (take (begins S r) cube) table
+
+module _ {S : ℕ} {cube table rest : List ℕ} {r : Row} (s : SoFar S cube table rest r) (size : length cube ≡ volume S) where
+  -- While a byte is left, a whole row is, and it is one of the cube.
+  few : begins S r < length cube → row_number S r < S * S
+  few l =
+      let g : ¬ (S * S ≤ row_number S r) = λ h. omega (arith, mul-le-mul_left S h) in
       omega arith
 
-  pub whole : p + S ≤ length cube
-  whole = omega (arith, s.stands, mul-le-mul_left S few)
+  whole : begins S r < length cube → begins S r + S ≤ length cube
+  whole l = omega (arith, mul-le-mul_left S (few l))
 
-  pub z_in : r.z < S
-  z_in = let g : ¬ (S ≤ r.z) = λ h. omega (arith, mul-le-mul_left S h, few) in omega arith
+  -- Once no row is left, no byte is.
+  pub done : length rest < S → Table S cube table
+  done l =
+      let g : ¬ (begins S r < length cube) = λ h. omega (arith, whole h, l, ap length s.left, length-drop (begins S r) cube) in
+      rw (take_all (begins S r) cube (omega (arith, g))) at s.tallied
 
-abbrev pub invariant-loop-p : goal.invariant-loop-p
-invariant-loop-p l = SoFar l.side l.cube l.table l.row l.p
+  -- A row more.
+  module _ (least : 2 ≤ S) (marks rest' : List ℕ) (is : rest ≡ marks ++ rest') (row : length marks ≡ S) where
+    parts : drop (begins S r) cube ≡ marks ++ rest'
+    parts = sym s.left ∙ is
 
-abbrev pub decreases-loop-p : goal.decreases-loop-p
-decreases-loop-p l = length l.cube - l.p
+    inside : begins S r + S ≤ length cube
+    inside =
+        let g : S ≤ length (drop (begins S r) cube) = rw (parts, length-append) (omega (arith, row)) in
+        omega (arith, g, length-drop (begins S r) cube, s.within)
+
+    pub z_in : r.z < S
+    z_in = let g : ¬ (S ≤ r.z) = λ h. omega (arith, mul-le-mul_left S h, few (omega (arith, inside))) in omega arith
+
+    pub next : {r' : Row} {after : List ℕ} → Bytes marks → Next S r r' → after ≡ added_row marks 0 r table →
+        SoFar S cube after rest' r'
+    next {r'} {after} bytes n e =
+        let follows : begins S r' ≡ begins S r + S = omega (arith, ap (S *◌) n.is) in
+        let these : take S (drop (begins S r) cube) ≡ marks = rw parts (take_at marks rest' S row) in
+        record {
+          within = omega (arith, inside, follows);
+          y_in = n.y_in;
+          left = sym (drop_at marks rest' S row) ∙ ap (drop S) (sym parts) ∙ drop-drop S (begins S r) cube ∙ ap (λ k. drop k cube) (sym follows);
+          tallied =
+              rw (follows, e, ← these) (row_added S cube (begins S r) r s.y_in refl inside (rw these bytes) s.tallied);
+        }
+
+abbrev pub invariant-loop-marks : goal.invariant-loop-marks
+invariant-loop-marks l =
+    (l.marks-iterator.size ≡ l.cube.side) × SoFar l.cube.side l.cube.bytes.now l.table l.marks-iterator.rest.now l.row

@@ -2,14 +2,8 @@
 use lib.Dec.{lit<}
 use mir.Facts.{to_z-of_z}
 use Rattle.cubic.specs.Axis.{long_of}
-use Rattle.cubic.proofs.Fits.{literal, held, add, add_fits, sub, sub_fits}
+use Rattle.cubic.proofs.Fits.{literal, held, add, sub}
 use Rattle.cubic.proofs.long.is_long.Goals as goal
-
-pub overflow_add-two : goal.overflow_add-two
-overflow_add-two c = let n = held c.requires (lit< tt) in add_fits n n (lit< tt)
-
-pub overflow_sub-low : goal.overflow_sub-low
-overflow_sub-low c = let n = held c.requires (lit< tt) in sub_fits (literal 0) (add n n (lit< tt)) (lit< tt)
 
 pub returns-then-d1-two : goal.returns-then-d1-two
 unfolding long_of

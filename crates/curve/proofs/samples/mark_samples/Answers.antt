@@ -1,4 +1,4 @@
--- `mark_samples` meets its contract: a drawable curve is a row that the walker walks, with the choice that is told.
+-- `mark_samples` meets its contract: a drawable curve is a row that the walker walks.
 use borrow.Author.Rules.{rules}
 use mathlib.Core.Path.{◌≡◌}
 use Prim.Native.Nat.{ℕ, ◌*◌}
@@ -57,31 +57,9 @@ mark_row-requires c =
       le_mark = w.2;
     }
 
-pub mark_row-requires-in-Under : goal.mark_row-requires-in-Under
-mark_row-requires-in-Under c =
-    let twelve : length c.args.curve.points ≡ 12 = search rules in
-    let w = (draw_accepted c.args.side (curve_of c.args.curve) _).0 c.requires in
-    record {
-      on_grid =
-          room_for_row c.args.curve twelve w.0
-          (scale_is c.args.side c.args.curve twelve (length c.args.grid.now) c.requires c.cubed-scale.ensures)
-          c.grid_strides-h.ensures c.start_walker-start.ensures w.1;
-      n_bound = (drawable_in_limits c.args.curve twelve w.0).count_most;
-      le_mark = w.2;
-    }
-
-pub returns-in-Over-clause-grid_after_2 : goal.returns-in-Over-clause-grid_after_2
-returns-in-Over-clause-grid_after_2 c =
+pub returns-clause-grid_after_2 : goal.returns-clause-grid_after_2
+returns-clause-grid_after_2 c =
     let twelve : length c.args.curve.points ≡ 12 = search rules in
     row_marks c.args.curve twelve (drawable c.args.side c.args.curve twelve (length c.args.grid.now) c.requires)
     (scale_is c.args.side c.args.curve twelve (length c.args.grid.now) c.requires c.cubed-scale.ensures)
-    c.grid_strides-h.ensures c.start_walker-start.ensures c.args.grid.now c.requires c.in-Over.is
-    c.mark_row.ensures.grid_after_2
-
-pub returns-in-Under-clause-grid_after_2 : goal.returns-in-Under-clause-grid_after_2
-returns-in-Under-clause-grid_after_2 c =
-    let twelve : length c.args.curve.points ≡ 12 = search rules in
-    row_marks c.args.curve twelve (drawable c.args.side c.args.curve twelve (length c.args.grid.now) c.requires)
-    (scale_is c.args.side c.args.curve twelve (length c.args.grid.now) c.requires c.cubed-scale.ensures)
-    c.grid_strides-h.ensures c.start_walker-start.ensures c.args.grid.now c.requires c.in-Under.is
-    c.mark_row-in-Under.ensures.grid_after_2
+    c.grid_strides-h.ensures c.start_walker-start.ensures c.args.grid.now c.requires c.mark_row.ensures.grid_after_2

@@ -22,7 +22,7 @@ module _ (curve : Curve) (l : InLimits curve) (a : ℕ) (h : a < 3) where
 pub start-requires : goal.start-requires
 start-requires c =
     let q = c.requires in
-    rw (stride_read q.small_stride, point c.args.curve q.in_limits c.args.a q.a_bound c.coordinate.ensures)
+    rw (stride_read q.small_stride, point c.args.curve q.in_limits c.args.a q.a_bound c.from.ensures)
     (record {
       stride = q.small_stride;
       point = within_pos (omega (arith, below c.args.curve q.in_limits c.args.a q.a_bound));
@@ -31,5 +31,5 @@ start-requires c =
 pub returns : goal.returns
 returns c =
     let q = c.requires in
-    rw (stride_read q.small_stride, point c.args.curve q.in_limits c.args.a q.a_bound c.coordinate.ensures, c.cubic_along.ensures)
+    rw (stride_read q.small_stride, point c.args.curve q.in_limits c.args.a q.a_bound c.from.ensures, c.cubic_along.ensures)
     at c.start.ensures

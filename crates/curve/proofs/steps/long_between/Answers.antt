@@ -7,9 +7,8 @@ use native.Mathlib.Numerals.{add-one}
 use native.Mathlib.Omega.{arith}
 use lib.Dec.{lit<}
 use lib.IntN.{ℤ, pos}
-use Rattle.cubic.specs.declared.differences.Cubic.{Cubic}
 use Rattle.cubic.specs.Axis.{long_of}
-use Rattle.cubic.specs.Differences.{differences_at, next_of}
+use Rattle.cubic.specs.Differences.{Cubic, differences_at, next_of}
 use Rattle.cubic.proofs.Closed.{samples_cubic}
 use Rattle.cubic.proofs.Next.{next_differences}
 use Rattle.cubic.proofs.Fits.{read, held}

@@ -1,6 +1,9 @@
 -- `gidzkhalu_list_path` meets its contract: the record's length is judged, then the call.
-use mathlib.Core.Path.{ap}
-use native.Mathlib.Omega.{arith}
+use Rattle.std.proofs.Common.{rules}
+use mathlib.Core.Path.{◌≡◌, refl, ap}
+use mathlib.Core.List.{List}
+use Prim.Native.Nat.{ℕ}
+use lib.ListN.{length}
 use Rattle.drawing.specs.declared.Choice.TheVariants.{Over}
 use Rattle.drawing.specs.Object.{curve}
 use Rattle.path.specs.Path.{path_listing}
@@ -8,12 +11,13 @@ use Rattle.exports.proofs.Small.{reads}
 use Rattle.exports.proofs.Calls.{wrong_listing, right_listing}
 use Rattle.exports.proofs.curves.gidzkhalu_list_path.Goals as goal
 
-pub returns-then-points-ne12 : goal.returns-then-points-ne12
-returns-then-points-ne12 c =
+pub returns-in_default : goal.returns-in_default
+returns-in_default c =
     wrong_listing 12 c.args.points.now (path_listing c.args.side (curve c.args.steps c.args.points.now 0 Over)) _
-    c.if-points-ne12.true (reads c.refused.ensures)
+    (search rules) (reads c.refused.ensures)
 
 pub returns : goal.returns
 returns c =
-    right_listing 12 c.args.points.now _ _ _ (omega (arith, c.if-points-ne12.false))
-    (ap (path_listing _) c.curve_of.ensures) c.list_path.ensures (reads c.of_listing.ensures)
+    let same : ◌≡◌ {A = List ℕ} c.in-Ok.points c.args.points.now = search rules in
+    right_listing 12 c.args.points.now _ _ _ (search rules) (ap (path_listing _) (rw same refl)) c.list_path.ensures
+    (reads c.signed.ensures)

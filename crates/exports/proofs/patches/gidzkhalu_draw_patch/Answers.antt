@@ -1,22 +1,24 @@
 -- `gidzkhalu_draw_patch` meets its contract: the record's length is judged, then the choice, then the call.
-use mathlib.Core.Path.{ap}
-use native.Mathlib.Omega.{arith}
+use Rattle.std.proofs.Common.{rules}
+use mathlib.Core.Path.{◌≡◌, refl, ap}
+use mathlib.Core.List.{List}
+use Prim.Native.Nat.{ℕ}
+use lib.ListN.{length}
 use Rattle.drawing.specs.Drawing.{drawing_of}
 use Rattle.exports.proofs.Small.{reads}
-use Rattle.exports.proofs.Calls.{wrong_record, wrong_number, right_drawing}
+use Rattle.exports.proofs.Calls.{wrong_record, wrong_number, right_drawing, no_choice_at, choice_at_most, same_choice}
 use Rattle.exports.proofs.patches.gidzkhalu_draw_patch.Goals as goal
 
-pub returns-then-points-ne48 : goal.returns-then-points-ne48
-returns-then-points-ne48 c =
-    wrong_record 48 _ _ _ _ c.if-points-ne48.true (reads c.refused.ensures)
+pub returns-in_default : goal.returns-in_default
+returns-in_default c = wrong_record 48 _ _ _ _ (search rules) (reads c.refused.ensures)
 
-pub returns-then-choice-gt1 : goal.returns-then-choice-gt1
-returns-then-choice-gt1 c =
-    wrong_number 48 _ _ _ _ (omega (arith, c.if-points-ne48.false)) (omega (arith, c.if-choice-gt1.true))
-    (reads c.refused-then-choice-gt1.ensures)
+pub returns-in_default-try_from : goal.returns-in_default-try_from
+returns-in_default-try_from c =
+    wrong_number 48 _ _ _ _ (search rules) (no_choice_at _ c.in_default-try_from.ensures) (reads c.refused-in_default-try_from.ensures)
 
 pub returns : goal.returns
 returns c =
-    right_drawing 48 _ _ _ _ _ (omega (arith, c.if-points-ne48.false)) (omega (arith, c.if-choice-gt1.false))
-    (ap (drawing_of _) (rw c.choice_of.ensures at c.patch_of.ensures)) c.draw_patch.ensures (reads c.of_drawing.ensures.value)
-    c.of_drawing.ensures.new_cells_after
+    let same : ◌≡◌ {A = List ℕ} c.in-Ok.points c.args.points.now = search rules in
+    right_drawing 48 _ _ _ _ _ (search rules) (choice_at_most _ c.in-Ok-try_from.ensures)
+    (ap (drawing_of _) (rw (same, same_choice _ c.in-Ok-try_from.ensures) refl)) c.draw_patch.ensures (reads c.drawn.ensures.value)
+    c.drawn.ensures.new_cells_after

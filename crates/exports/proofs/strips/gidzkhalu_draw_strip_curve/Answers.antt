@@ -9,20 +9,15 @@ use Rattle.strip.specs.Strip.{Judges}
 use Rattle.strip.proofs.Orders.{taken_alike}
 use Rattle.exports.specs.Records.{choice_of, DrawsBytes}
 use Rattle.exports.proofs.Small.{reads}
-use Rattle.exports.proofs.Calls.{wrong_record, wrong_number, own_number, as_another}
+use Rattle.exports.proofs.Calls.{wrong_record, wrong_number, own_number, as_another, no_choice_at, choice_at_most}
 use Rattle.exports.proofs.Taken.{handed_on, curve_count}
 use Rattle.exports.proofs.strips.gidzkhalu_draw_strip_curve.Goals as goal
 
 pub returns-then-points-ne12 : goal.returns-then-points-ne12
 returns-then-points-ne12 c = wrong_record 12 _ _ _ _ c.if-points-ne12.true (reads c.refused.ensures)
 
-pub returns-then-choice-gt1 : goal.returns-then-choice-gt1
-returns-then-choice-gt1 c =
-    wrong_number 12 _ _ _ _ (omega (arith, c.if-points-ne12.false)) (omega (arith, c.if-choice-gt1.true))
-    (reads c.refused-then-choice-gt1.ensures)
-
-pub returns-in-Accepted : goal.returns-in-Accepted
-returns-in-Accepted c =
+pub returns-in-Ok : goal.returns-in-Ok
+returns-in-Ok c =
     let a = c.args in
     let o = curve a.steps a.points.now a.mark (choice_of a.choice) in
     let judged : Judges a.side (length a.grid.now) o (verdict_of c.judge_curve.result) =
@@ -31,15 +26,20 @@ returns-in-Accepted c =
     subst (DrawsBytes 12 _ _ _ _ _ _ _)
     (sym (handed_on 12 a.side (length a.grid.now) a.choice o (curve_count a.points.now a.mark _ a.steps) main.call.answer))
     (as_another 12 _ _ _ _ _
-    (taken_alike a.side o (subst (λ v. Judges a.side (length a.grid.now) o (verdict_of v)) c.in-Accepted.is judged))
+    (taken_alike a.side o (subst (λ v. Judges a.side (length a.grid.now) o (verdict_of v)) c.in-Ok.is judged))
     main)
 
-pub returns-else-choice-gt1 : goal.returns-else-choice-gt1
-returns-else-choice-gt1 c =
+pub returns-in_default : goal.returns-in_default
+returns-in_default c =
+    wrong_number 12 _ _ _ _ (omega (arith, c.if-points-ne12.false)) (no_choice_at _ c.in_default.ensures)
+    (reads c.refused-in_default.ensures)
+
+pub returns-in-Ok-try_from : goal.returns-in-Ok-try_from
+returns-in-Ok-try_from c =
     let a = c.args in
     let o = curve a.steps a.points.now a.mark (choice_of a.choice) in
     let judged : Judges a.side (length a.grid.now) o (verdict_of c.judge_curve.result) =
     c.judge_curve.ensures.each a.points.now (choice_of a.choice) in
-    own_number 12 _ _ _ _ (omega (arith, c.if-points-ne12.false)) (omega (arith, c.if-choice-gt1.false))
-    (subst (λ v. Judges a.side (length a.grid.now) o (verdict_of v)) c.in-Refused.is judged)
-    (reads c.refused-in-Refused.ensures)
+    own_number 12 _ _ _ _ c.in-Err.refusal (omega (arith, c.if-points-ne12.false)) (choice_at_most _ c.in-Ok-try_from.ensures)
+    (subst (λ v. Judges a.side (length a.grid.now) o (verdict_of v)) c.in-Err.is judged)
+    (reads c.refused-in-Err.ensures)

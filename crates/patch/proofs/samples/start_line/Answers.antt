@@ -6,7 +6,7 @@ use lib.IntN.{ℤ, pos}
 use lib.ListN.{get_or}
 use Rattle.integers.proofs.Magnitude.{within_pos}
 use Rattle.cubic.proofs.Fits.{read}
-use Rattle.surface.specs.declared.Surface.{Surface}
+use Rattle.surface.specs.Surface.{Surface}
 use Rattle.scan.proofs.Natural.{answer_read, stride_read}
 use Rattle.rows.specs.declared.Line.{Line}
 use Rattle.rows.specs.Lines.{start_line}
@@ -29,10 +29,10 @@ point l h e = answer_read e (omega (arith, below l h))
 pub start-requires : goal.start-requires
 start-requires c =
     let r = c.requires in
-    rw (stride_read r.small_stride, point r.in_limits r.a_bound c.coordinate.ensures)
+    rw (stride_read r.small_stride, point r.in_limits r.a_bound c.from.ensures)
     (record { stride = r.small_stride; point = within_pos (omega (arith, below r.in_limits r.a_bound)) })
 
 pub returns : goal.returns
 returns c =
     let r = c.requires in
-    started (stride_read r.small_stride) (point r.in_limits r.a_bound c.coordinate.ensures) c.start_surface.ensures c.start.ensures
+    started (stride_read r.small_stride) (point r.in_limits r.a_bound c.from.ensures) c.start_surface.ensures c.start.ensures

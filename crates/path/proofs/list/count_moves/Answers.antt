@@ -40,8 +40,8 @@ start_axis-axis-requires c = record {
   small_stride = within_pos (lit≤ tt);
 }
 
-pub loop-i-init : goal.loop-i-init
-loop-i-init c = rw c.start_axis-axis.ensures (none _ (search rules) ((check_accepted _ _).0 c.requires.curve_value) _)
+pub loop-init : goal.loop-init
+loop-init c = rw c.start_axis-axis.ensures (none _ (search rules) ((check_accepted _ _).0 c.requires.curve_value) _)
 
 pub moves-moved-requires : goal.moves-moved-requires
 moves-moved-requires c =
@@ -52,42 +52,42 @@ moves-moved-requires c =
       size = scale_of (curve_of n);
       is = scale_is n twelve d c.cubed-scale.ensures;
       small = scale_small (drawable_in_limits n twelve d);
-      cubic = (room n twelve d c.cubed-scale.ensures c.requires.a_bound c.loop-i.invariant).cubic;
+      cubic = (room n twelve d c.cubed-scale.ensures c.requires.a_bound c.loop.invariant).cubic;
     }
 
 pub advance-axis-requires : goal.advance-axis-requires
 advance-axis-requires c = record {
   steps =
       room c.args.curve (search rules) ((check_accepted _ _).0 c.requires.curve_value) c.cubed-scale.ensures c.requires.a_bound
-      c.loop-i.invariant;
+      c.loop.invariant;
   moved_value = c.moves-moved.ensures;
 }
 
 pub overflow_add-moves : goal.overflow_add-moves
-overflow_add-moves c = record {
+overflow_add-moves c = let e = c.from-moves.ensures in record {
   fits = omega (
     arith,
     (counted c.moves-moved.result).1,
-    c.loop-i.invariant.few,
-    c.loop-i.invariant.within,
+    c.loop.invariant.few,
+    c.loop.invariant.within,
     ((check_accepted _ _).0 c.requires.curve_value).count_most 0 (lit< tt),
   );
 }
 
-pub loop-i-preserved : goal.loop-i-preserved
-loop-i-preserved c =
+pub loop-preserved : goal.loop-preserved
+loop-preserved c =
     let n = c.args.curve in
     let twelve : length n.points ≡ 12 = search rules in
     let d = (check_accepted _ _).0 c.requires.curve_value in
     let e = scale_is n twelve d c.cubed-scale.ensures in
-    rw add-one (more n twelve d c.loop-i.invariant (search rules) (rw e at c.advance-axis.ensures) (rw e at c.moves-moved.ensures))
+    rw (add-one, c.from-moves.ensures) (more n twelve d c.loop.invariant (search rules) (rw e at c.advance-axis.ensures) (rw e at c.moves-moved.ensures))
 
 pub returns : goal.returns
 returns c =
     let n = c.args.curve in
-    let e : c.loop-i.i ≡ n.steps = omega (arith, c.loop-i.invariant.within, c.loop-i-test.false) in
+    let e : c.loop.counter ≡ n.steps = omega (arith, c.loop.invariant.within, c.loop-test.false) in
     record {
       are = λ x f.
-          c.loop-i.invariant.are x f ∙ ap (λ i. over_steps (move_of x) (cells_to n i)) e ∙
+          c.loop.invariant.are x f ∙ ap (λ i. over_steps (move_of x) (cells_to n i)) e ∙
           ap (over_steps (move_of x)) (sym (along.all_cells n.steps n.points n.mark n.choice));
     }

@@ -81,8 +81,5 @@ module _ {S : ℕ} (c : Curve) (twelve : length c.points ≡ 12) (d : Drawable S
           subst (AtSample c x (suc i)) (sym (e ∙ ap (λ h. step_of (pos (scale_of (curve_of c))) h m) (sym (list_stride_is x))))
           (axis_next (list_row c twelve d) x l (s.at x f))
 
-abbrev pub invariant-loop-i : goal.invariant-loop-i
-invariant-loop-i l = SoFar l.curve l.a l.i l.axis l.moves
-
-abbrev pub decreases-loop-i : goal.decreases-loop-i
-decreases-loop-i l = l.curve.steps - l.i
+abbrev pub invariant-loop : goal.invariant-loop
+invariant-loop l = SoFar l.fn.curve l.a l.counter l.axis l.moves

@@ -9,8 +9,7 @@ use Rattle.cubic.specs.declared.axis.Axis as machine
 use Rattle.cubic.specs.Axis.{step_of}
 use Rattle.cubic.specs.Room.{Steps}
 use Rattle.cubic.proofs.Fits.{read}
-use Rattle.scan.specs.declared.walker.Walker.{Walker}
-use Rattle.scan.specs.Walker.{axis_of, stride_of, list_strides, cell_of_walker, coordinates, ByteCell}
+use Rattle.scan.specs.Walker.{Walker, axis_of, stride_of, list_strides, cell_of_walker, coordinates, ByteCell}
 use Rattle.scan.proofs.Samples.{At, along, list_stride_is}
 use Rattle.curve.specs.declared.Curve.{Curve}
 use Rattle.curve.specs.Curve.{curve_of}
@@ -214,8 +213,5 @@ done {c} {list₀} {i = i} t e g p q =
           ap (bytes (path (cells (curve_of c))) ++◌) (ap (drop k) q ∙ rest_kept p g k (omega (arith, size))),
     )
 
-abbrev pub invariant-loop-i : goal.invariant-loop-i
-invariant-loop-i l = SoFar l.curve l.initial.list l.i (record { x = l.x; y = l.y; z = l.z }) l.list l.cells
-
-abbrev pub decreases-loop-i : goal.decreases-loop-i
-decreases-loop-i l = l.curve.steps - l.i
+abbrev pub invariant-loop : goal.invariant-loop
+invariant-loop l = SoFar l.fn.curve l.initial.list l.counter l.w l.list l.cells

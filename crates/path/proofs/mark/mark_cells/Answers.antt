@@ -15,9 +15,7 @@ use Rattle.cubic.specs.Axis.{step_of}
 use Rattle.cubic.specs.Room.{Steps}
 use Rattle.cubic.proofs.Fits.{read}
 use Rattle.scan.specs.declared.answer.Drawn.{Drawn}
-use Rattle.scan.specs.declared.walker.Strides.{Strides}
-use Rattle.scan.specs.declared.walker.Walker.{Walker}
-use Rattle.scan.specs.Walker.{axis_of, stride_of, grid_strides, HasPlace, place_of}
+use Rattle.scan.specs.Walker.{Strides, Walker, axis_of, stride_of, grid_strides, HasPlace, place_of}
 use Rattle.scan.proofs.Natural.{cube_grows}
 use Rattle.scan.proofs.Samples.{grid_stride, grid_small}
 use Rattle.scan.proofs.Written.{counted, one_more}
@@ -236,8 +234,8 @@ grid_strides-h-requires c = ((draw_accepted _ _ _).0 c.requires).0.side_most
 pub cubed-scale-requires : goal.cubed-scale-requires
 cubed-scale-requires c = ((draw_accepted _ _ _).0 c.requires).0.count_most 0 (lit< tt)
 
-pub start_walker-start-requires : goal.start_walker-start-requires
-start_walker-start-requires c =
+pub start_walker-w-requires : goal.start_walker-w-requires
+start_walker-w-requires c =
     let d = ((draw_accepted _ _ _).0 c.requires).0 in
     record {
       in_limits = drawable_in_limits _ (search rules) d;
@@ -247,30 +245,30 @@ start_walker-start-requires c =
 pub place-requires : goal.place-requires
 place-requires c =
     let r = (draw_accepted _ _ _).0 c.requires in
-    (begins c.args.curve (search rules) r.0 c.grid_strides-h.ensures c.start_walker-start.ensures r.1).0
+    (begins c.args.curve (search rules) r.0 c.grid_strides-h.ensures c.start_walker-w.ensures r.1).0
 
-pub mark_cell-first-requires : goal.mark_cell-first-requires
-mark_cell-first-requires c =
+pub mark_cell-requires : goal.mark_cell-requires
+mark_cell-requires c =
     let r = (draw_accepted _ _ _).0 c.requires in
-    rw c.place.ensures (begins c.args.curve (search rules) r.0 c.grid_strides-h.ensures c.start_walker-start.ensures r.1).1
+    rw c.place.ensures (begins c.args.curve (search rules) r.0 c.grid_strides-h.ensures c.start_walker-w.ensures r.1).1
 
-pub loop-i-init : goal.loop-i-init
-loop-i-init c =
+pub loop-init : goal.loop-init
+loop-init c =
     let r = (draw_accepted _ _ _).0 c.requires in
-    none c.args.curve (search rules) r.0 c.grid_strides-h.ensures c.start_walker-start.ensures c.args.choice r.2 c.args.grid.now r.1
-    c.place.ensures c.mark_cell-first.ensures.value c.mark_cell-first.ensures.grid_after
+    rw c.from-first.ensures (none c.args.curve (search rules) r.0 c.grid_strides-h.ensures c.start_walker-w.ensures c.args.choice r.2 c.args.grid.now r.1
+    c.place.ensures c.mark_cell.ensures.value c.mark_cell.ensures.grid_after)
 
 -- Sample by sample.
 pub moves-x_moves-requires : goal.moves-x_moves-requires
 moves-x_moves-requires c =
     let r = (draw_accepted _ _ _).0 c.requires in
-    may_ask c.args.curve (search rules) r.0 c.cubed-scale.ensures c.grid_strides-h.ensures c.loop-i.invariant x_axis
+    may_ask c.args.curve (search rules) r.0 c.cubed-scale.ensures c.grid_strides-h.ensures c.loop.invariant x_axis
 
-pub advance-x-requires : goal.advance-x-requires
-advance-x-requires c =
+pub advance-w-requires : goal.advance-w-requires
+advance-w-requires c =
     let r = (draw_accepted _ _ _).0 c.requires in
     record {
-      steps = may_step c.args.curve (search rules) r.0 c.cubed-scale.ensures c.grid_strides-h.ensures c.loop-i.invariant x_axis;
+      steps = may_step c.args.curve (search rules) r.0 c.cubed-scale.ensures c.grid_strides-h.ensures c.loop.invariant x_axis;
       moved_value = c.moves-x_moves.ensures;
     }
 
@@ -278,73 +276,73 @@ pub mark_moved-drawn-requires : goal.mark_moved-drawn-requires
 mark_moved-drawn-requires c =
     let r = (draw_accepted _ _ _).0 c.requires in
     let a =
-    asks_x c.args.curve (search rules) r.0 c.cubed-scale.ensures c.grid_strides-h.ensures c.loop-i.invariant r.2 (search rules)
-    c.advance-x.ensures c.moves-x_moves.ensures in
+    asks_x c.args.curve (search rules) r.0 c.cubed-scale.ensures c.grid_strides-h.ensures c.loop.invariant r.2 (search rules)
+    c.advance-w.ensures c.moves-x_moves.ensures in
     record { has_place = a.0; w_in_bounds = a.1.0; le_mark = a.1.1 }
 
 pub moves-y_moves-requires : goal.moves-y_moves-requires
 moves-y_moves-requires c =
     let r = (draw_accepted _ _ _).0 c.requires in
-    may_ask c.args.curve (search rules) r.0 c.cubed-scale.ensures c.grid_strides-h.ensures c.loop-i.invariant y_axis
+    may_ask c.args.curve (search rules) r.0 c.cubed-scale.ensures c.grid_strides-h.ensures c.loop.invariant y_axis
 
-pub advance-y-requires : goal.advance-y-requires
-advance-y-requires c =
+pub advance-w-requires-in-loop : goal.advance-w-requires-in-loop
+advance-w-requires-in-loop c =
     let r = (draw_accepted _ _ _).0 c.requires in
     record {
-      steps = may_step c.args.curve (search rules) r.0 c.cubed-scale.ensures c.grid_strides-h.ensures c.loop-i.invariant y_axis;
+      steps = may_step c.args.curve (search rules) r.0 c.cubed-scale.ensures c.grid_strides-h.ensures c.loop.invariant y_axis;
       moved_value = c.moves-y_moves.ensures;
     }
 
-pub mark_moved-drawn-requires-in-loop-i : goal.mark_moved-drawn-requires-in-loop-i
-mark_moved-drawn-requires-in-loop-i c =
+pub mark_moved-drawn-requires-in-loop : goal.mark_moved-drawn-requires-in-loop
+mark_moved-drawn-requires-in-loop c =
     let r = (draw_accepted _ _ _).0 c.requires in
     let x = c.mark_moved-drawn.ensures in
     let a =
-    asks_y c.args.curve (search rules) r.0 c.cubed-scale.ensures c.grid_strides-h.ensures c.loop-i.invariant r.2 (search rules)
-    c.advance-x.ensures c.moves-x_moves.ensures c.mark_moved-drawn.result (x.answer_value, x.grid_after, x.grid_after_2)
-    c.advance-y.ensures c.moves-y_moves.ensures in
+    asks_y c.args.curve (search rules) r.0 c.cubed-scale.ensures c.grid_strides-h.ensures c.loop.invariant r.2 (search rules)
+    c.advance-w.ensures c.moves-x_moves.ensures c.mark_moved-drawn.result (x.answer_value, x.grid_after, x.grid_after_2)
+    c.advance-w-in-loop.ensures c.moves-y_moves.ensures in
     record { has_place = a.0; w_in_bounds = a.1.0; le_mark = a.1.1 }
 
 pub moves-z_moves-requires : goal.moves-z_moves-requires
 moves-z_moves-requires c =
     let r = (draw_accepted _ _ _).0 c.requires in
-    may_ask c.args.curve (search rules) r.0 c.cubed-scale.ensures c.grid_strides-h.ensures c.loop-i.invariant z_axis
+    may_ask c.args.curve (search rules) r.0 c.cubed-scale.ensures c.grid_strides-h.ensures c.loop.invariant z_axis
 
-pub advance-z-requires : goal.advance-z-requires
-advance-z-requires c =
+pub advance-w-requires-in-loop-2 : goal.advance-w-requires-in-loop-2
+advance-w-requires-in-loop-2 c =
     let r = (draw_accepted _ _ _).0 c.requires in
     record {
-      steps = may_step c.args.curve (search rules) r.0 c.cubed-scale.ensures c.grid_strides-h.ensures c.loop-i.invariant z_axis;
+      steps = may_step c.args.curve (search rules) r.0 c.cubed-scale.ensures c.grid_strides-h.ensures c.loop.invariant z_axis;
       moved_value = c.moves-z_moves.ensures;
     }
 
-pub mark_moved-drawn-requires-in-loop-i-2 : goal.mark_moved-drawn-requires-in-loop-i-2
-mark_moved-drawn-requires-in-loop-i-2 c =
+pub mark_moved-drawn-requires-in-loop-2 : goal.mark_moved-drawn-requires-in-loop-2
+mark_moved-drawn-requires-in-loop-2 c =
     let r = (draw_accepted _ _ _).0 c.requires in
     let x = c.mark_moved-drawn.ensures in
-    let y = c.mark_moved-drawn-in-loop-i.ensures in
+    let y = c.mark_moved-drawn-in-loop.ensures in
     let a =
-    asks_z c.args.curve (search rules) r.0 c.cubed-scale.ensures c.grid_strides-h.ensures c.loop-i.invariant r.2 (search rules)
-    c.advance-x.ensures c.moves-x_moves.ensures c.mark_moved-drawn.result (x.answer_value, x.grid_after, x.grid_after_2)
-    c.advance-y.ensures c.moves-y_moves.ensures c.mark_moved-drawn-in-loop-i.result (y.answer_value, y.grid_after, y.grid_after_2)
-    c.advance-z.ensures c.moves-z_moves.ensures in
+    asks_z c.args.curve (search rules) r.0 c.cubed-scale.ensures c.grid_strides-h.ensures c.loop.invariant r.2 (search rules)
+    c.advance-w.ensures c.moves-x_moves.ensures c.mark_moved-drawn.result (x.answer_value, x.grid_after, x.grid_after_2)
+    c.advance-w-in-loop.ensures c.moves-y_moves.ensures c.mark_moved-drawn-in-loop.result (y.answer_value, y.grid_after, y.grid_after_2)
+    c.advance-w-in-loop-2.ensures c.moves-z_moves.ensures in
     record { has_place = a.0; w_in_bounds = a.1.0; le_mark = a.1.1 }
 
-pub loop-i-preserved : goal.loop-i-preserved
-loop-i-preserved c =
+pub loop-preserved : goal.loop-preserved
+loop-preserved c =
     let r = (draw_accepted _ _ _).0 c.requires in
     let x = c.mark_moved-drawn.ensures in
-    let y = c.mark_moved-drawn-in-loop-i.ensures in
-    let z = c.mark_moved-drawn-in-loop-i-2.ensures in
+    let y = c.mark_moved-drawn-in-loop.ensures in
+    let z = c.mark_moved-drawn-in-loop-2.ensures in
     rw add-one
-    (again c.args.curve (search rules) r.0 c.cubed-scale.ensures c.grid_strides-h.ensures c.loop-i.invariant r.2 (search rules)
-    c.advance-x.ensures c.moves-x_moves.ensures c.mark_moved-drawn.result (x.answer_value, x.grid_after, x.grid_after_2)
-    c.advance-y.ensures c.moves-y_moves.ensures c.mark_moved-drawn-in-loop-i.result (y.answer_value, y.grid_after, y.grid_after_2)
-    c.advance-z.ensures c.moves-z_moves.ensures c.mark_moved-drawn-in-loop-i-2.result (z.answer_value, z.grid_after, z.grid_after_2))
+    (again c.args.curve (search rules) r.0 c.cubed-scale.ensures c.grid_strides-h.ensures c.loop.invariant r.2 (search rules)
+    c.advance-w.ensures c.moves-x_moves.ensures c.mark_moved-drawn.result (x.answer_value, x.grid_after, x.grid_after_2)
+    c.advance-w-in-loop.ensures c.moves-y_moves.ensures c.mark_moved-drawn-in-loop.result (y.answer_value, y.grid_after, y.grid_after_2)
+    c.advance-w-in-loop-2.ensures c.moves-z_moves.ensures c.mark_moved-drawn-in-loop-2.result (z.answer_value, z.grid_after, z.grid_after_2))
 
 pub shape_of-grid : goal.shape_of-grid
 shape_of-grid c =
-    let size = c.loop-i.invariant.size ∙ sym ((draw_accepted _ _ _).0 c.requires).1 in
+    let size = c.loop.invariant.size ∙ sym ((draw_accepted _ _ _).0 c.requires).1 in
     search rules
 
 pub returns : goal.returns
@@ -353,19 +351,19 @@ returns c =
     let r = (draw_accepted _ _ _).0 c.requires in
     let o : Curve = c.args.curve in
     let twelve : length o.points ≡ 12 = search rules in
-    let e : c.loop-i.i ≡ o.steps = omega (arith, c.loop-i.invariant.within, c.loop-i-test.false) in
-    let all : path (cells_to o c.loop-i.i) ≡ path (cells (curve_of o)) =
+    let e : c.loop.counter ≡ o.steps = omega (arith, c.loop.invariant.within, c.loop-test.false) in
+    let all : path (cells_to o c.loop.counter) ≡ path (cells (curve_of o)) =
     ap (λ i. path (cells_to o i)) e ∙ ap path (sym (curves.all_cells o.steps o.points o.mark o.choice)) in
-    let m = c.mark_cell-first.ensures in
+    let m = c.mark_cell.ensures in
     record {
-      answer_value = c.loop-i.invariant.answer ∙ ap length all;
+      answer_value = c.loop.invariant.answer ∙ ap length all;
       grid_after =
-          c.loop-i.invariant.fewer ∙
-          first_new o twelve r.0 c.grid_strides-h.ensures c.start_walker-start.ensures c.args.choice r.2 c.args.grid.now r.1
-          c.place.ensures m.value m.grid_after;
+          c.loop.invariant.fewer ∙
+          rw c.from-first.ensures (first_new o twelve r.0 c.grid_strides-h.ensures c.start_walker-w.ensures c.args.choice r.2 c.args.grid.now r.1
+          c.place.ensures m.value m.grid_after);
       grid_after_2 =
-          c.loop-i.invariant.marks c.args.grid.now
-          (first_mark o twelve r.0 c.grid_strides-h.ensures c.start_walker-start.ensures c.args.choice r.2 c.args.grid.now r.1
+          c.loop.invariant.marks c.args.grid.now
+          (first_mark o twelve r.0 c.grid_strides-h.ensures c.start_walker-w.ensures c.args.choice r.2 c.args.grid.now r.1
           c.place.ensures m.value m.grid_after) ∙
           ap (λ cs. marked c.args.choice o.mark (map (place c.args.side) cs) c.args.grid.now) all;
     }

@@ -9,8 +9,7 @@ use Rattle.drawing.specs.Drawing.{marked}
 use Rattle.drawing.specs.NewCells.{unmarked_cells}
 use Rattle.drawing.proofs.Marked.{marked_at, marked_append}
 use Rattle.scan.specs.declared.answer.Drawn.{Drawn}
-use Rattle.scan.specs.declared.walker.Walker.{Walker}
-use Rattle.scan.specs.Walker.{grid_strides, HasPlace, place_of}
+use Rattle.scan.specs.Walker.{Walker, grid_strides, HasPlace, place_of}
 use Rattle.scan.proofs.Samples.{At, along, grid_stride}
 use Rattle.curve.specs.declared.Curve.{Curve}
 use Rattle.curve.specs.Curve.{curve_of}
@@ -65,9 +64,6 @@ pub asked : {S : ℕ} {p : Cell} {w : Walker} {len : ℕ} → S ≤ 64 → Insid
     HasPlace w × (place_of w < len)
 asked {S} {p} most at s v = (stands_has_place most at s, rw (stands_place most at s, v) (place_below S p at))
 
-abbrev pub invariant-loop-i : goal.invariant-loop-i
-invariant-loop-i l =
-    SoFar l.side l.curve l.choice l.initial.grid l.initial.drawn l.i (record { x = l.x; y = l.y; z = l.z }) l.grid l.drawn
-
-abbrev pub decreases-loop-i : goal.decreases-loop-i
-decreases-loop-i l = l.curve.steps - l.i
+abbrev pub invariant-loop : goal.invariant-loop
+invariant-loop l =
+    SoFar l.side l.fn.curve l.fn.choice l.initial.grid l.initial.drawn l.counter l.w l.grid l.drawn

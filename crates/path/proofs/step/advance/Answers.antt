@@ -3,8 +3,7 @@ use Rattle.std.proofs.Common.{◌≡◌, ◌+◌, ◌^◌, true, false, ℤ, pos
 use lib.Signed.{lt_z, le_z}
 use Rattle.decide.proofs.Truth.{both_false}
 use Rattle.cubic.specs.declared.axis.Axis.{Axis}
-use Rattle.cubic.specs.declared.differences.Cubic.{Cubic}
-use Rattle.cubic.specs.Differences.{next_of}
+use Rattle.cubic.specs.Differences.{Cubic, next_of}
 use Rattle.cubic.specs.Axis.{with_value, settle_of, step_of}
 use Rattle.cubic.specs.Room.{Steps}
 use Rattle.cubic.proofs.Fits.{Holds, read, held, add, add_fits, sub, sub_fits}
@@ -54,17 +53,14 @@ overflow_add-axis c = let p = c.requires.steps in add_fits (at p) (stride p) (li
 
 pub overflow_sub-next : goal.overflow_sub-next
 overflow_sub-next c =
-    let n = c in
-    let p = n.requires.steps in sub_fits (value p n.next-next.ensures) (two p) (lit< tt)
+    let p = c.requires.steps in sub_fits (value p c.next-next.ensures) (two p) (lit< tt)
 
 pub returns-then-next-scale : goal.returns-then-next-scale
 returns-then-next-scale c =
-    let n = c in
-    let s = n in
-    let p = s.requires.steps in
-    let v = value p n.next-next.ensures in
-    let above : lt_z (read s.args.scale) (read n.next-next.result.value) ≡ true = search rules in
-    rw ((add (at p) (stride p) (lit< tt)).same, (sub v (two p) (lit< tt)).same, n.next-next.ensures) at c.with.ensures ∙
+    let p = c.requires.steps in
+    let v = value p c.next-next.ensures in
+    let above : lt_z (read c.args.scale) (read c.next-next.result.value) ≡ true = search rules in
+    rw ((add (at p) (stride p) (lit< tt)).same, (sub v (two p) (lit< tt)).same, c.next-next.ensures) at c.with.ensures ∙
     goes_up p (rw ((scale p).same, v.same) at above)
 
 pub overflow_sub-axis : goal.overflow_sub-axis
@@ -72,24 +68,18 @@ overflow_sub-axis c = let p = c.requires.steps in sub_fits (at p) (stride p) (li
 
 pub overflow_add-next : goal.overflow_add-next
 overflow_add-next c =
-    let n = c in
-    let p = n.requires.steps in add_fits (value p n.next-next.ensures) (two p) (lit< tt)
+    let p = c.requires.steps in add_fits (value p c.next-next.ensures) (two p) (lit< tt)
 
 pub returns-then-moved : goal.returns-then-moved
 returns-then-moved c =
-    let t = c in
-    let n = t in
-    let s = n in
-    let p = s.requires.steps in
-    let v = value p n.next-next.ensures in
+    let p = c.requires.steps in
+    let v = value p c.next-next.ensures in
     let not_above = c.if-next-scale.false in
-    rw ((sub (at p) (stride p) (lit< tt)).same, (add v (two p) (lit< tt)).same, n.next-next.ensures) at c.with-then-moved.ensures ∙
-    goes_down p (sym t.if-moved.true ∙ s.requires.moved_value) (rw ((scale p).same, v.same) at not_above)
+    rw ((sub (at p) (stride p) (lit< tt)).same, (add v (two p) (lit< tt)).same, c.next-next.ensures) at c.with-then-moved.ensures ∙
+    goes_down p (sym c.if-moved.true ∙ c.requires.moved_value) (rw ((scale p).same, v.same) at not_above)
 
 pub returns : goal.returns
 returns c =
-    let n = c in
-    let s = n in
-    let p = s.requires.steps in
-    let moved : s.args.moved ≡ false = search rules in
-    rw ((at p).same, (value p n.next-next.ensures).same, n.next-next.ensures) at c.with-2.ensures ∙ stays p (sym moved ∙ s.requires.moved_value)
+    let p = c.requires.steps in
+    let moved : c.args.moved ≡ false = search rules in
+    rw ((at p).same, (value p c.next-next.ensures).same, c.next-next.ensures) at c.with-2.ensures ∙ stays p (sym moved ∙ c.requires.moved_value)

@@ -7,8 +7,7 @@ use Rattle.integers.proofs.Difference.{val, pos_part, neg_part, val_of, val_with
 use Rattle.integers.proofs.Natural.{pos_sub}
 use Rattle.decide.proofs.Truth.{decided, same_test, less, not_less, at_most, true_of, false_of}
 use Rattle.cubic.specs.declared.axis.Axis.{Axis}
-use Rattle.cubic.specs.declared.differences.Cubic.{Cubic}
-use Rattle.cubic.specs.Differences.{next_of}
+use Rattle.cubic.specs.Differences.{Cubic, next_of}
 use Rattle.cubic.proofs.Fits.{Holds, read, add, add_fits, sub, sub_fits, literal}
 use Rattle.scan.proofs.Natural.{natural_held}
 use Rattle.path.specs.Step.{moves_next, Moving}

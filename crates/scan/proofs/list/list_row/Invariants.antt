@@ -8,9 +8,7 @@ use lib.ListN.{length, drop, length-map}
 use lib.Seq.{sets, sets-eq, length-sets}
 use Rattle.drawing.specs.Drawing.{bytes}
 use Rattle.drawing.proofs.Listed.{length_bytes}
-use Rattle.scan.specs.declared.walker.Walker.{Walker}
-use Rattle.scan.specs.declared.walker.Strides.{Strides}
-use Rattle.scan.specs.Walker.{step_all, after, cell_of_walker, coordinates, walkers, OnList}
+use Rattle.scan.specs.Walker.{Walker, Strides, step_all, after, cell_of_walker, coordinates, walkers, OnList}
 use Rattle.scan.proofs.Written.{bytes_more, written_after}
 use Rattle.scan.proofs.Row.{AfterSteps, no_steps, step_more, length_walkers}
 use Rattle.scan.proofs.list.list_row.Given as goal
@@ -71,8 +69,8 @@ module _ (scale : ℤ) (h : Strides) (w₀ : Walker) where
         size = length-sets list (at + 3) (coordinates (cell_of_walker w')) ∙ s.size;
       }
 
-abbrev pub invariant-loop-i : goal.invariant-loop-i
-invariant-loop-i l = SoFar l.scale l.h l.initial.w l.initial.list l.n l.i l.at l.w l.list
+abbrev pub invariant-loop : goal.invariant-loop
+invariant-loop l = SoFar l.scale l.h l.initial.w l.initial.list l.n l.counter l.at l.w l.list
 
-abbrev pub decreases-loop-i : goal.decreases-loop-i
-decreases-loop-i l = l.n - l.i
+abbrev pub decreases-loop : goal.decreases-loop
+decreases-loop l = l.n - l.counter

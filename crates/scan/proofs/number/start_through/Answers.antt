@@ -41,13 +41,13 @@ given {points} {n} {b0} {b1} {b2} {b3} l e e0 e1 e2 e3 =
 pub start-requires : goal.start-requires
 start-requires c =
     let g =
-    given c.requires c.count.ensures c.doubled.ensures c.doubled-2.ensures c.doubled-3.ensures
+    given c.requires c.from.ensures c.doubled.ensures c.doubled-2.ensures c.doubled-3.ensures
     c.doubled-4.ensures in
     rw (g.steps, g.point0, g.point1, g.point2, g.point3) (bytes_start c.requires)
 
 pub returns : goal.returns
 returns c =
     let g =
-    given c.requires c.count.ensures c.doubled.ensures c.doubled-2.ensures c.doubled-3.ensures
+    given c.requires c.from.ensures c.doubled.ensures c.doubled-2.ensures c.doubled-3.ensures
     c.doubled-4.ensures in
     rw (g.steps, g.point0, g.point1, g.point2, g.point3) at c.start.ensures

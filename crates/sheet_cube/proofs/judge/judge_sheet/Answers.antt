@@ -1,16 +1,18 @@
 -- `judge_sheet` meets its contract: line 1 is refused, or the curve lines decide.
-use mathlib.Core.Path.{sym, ap, subst}
-use Rattle.sheet_lines.specs.Read.{first_line}
-use Rattle.sheet_cube.specs.Lines.{found, SideOf}
+use Rattle.std.proofs.Common.{rules, ◌≡◌, sym, ap, Ok, Err}
+use Rattle.decide.specs.declared.Refusal.{Refusal}
+use Rattle.sheet_cube.specs.Lines.{found}
 use Rattle.sheet_cube.proofs.Judged.{side_refused}
 use Rattle.sheet_cube.proofs.judge.judge_sheet.Goals as goal
 
 pub judge_curves-requires : goal.judge_curves-requires
 judge_curves-requires c =
-    let side = subst (SideOf (first_line c.args.input.now)) c.in-Good.is c.judge_side.ensures in
+    let good : c.judge_side.result ≡ Ok c.in_ok-side.side = search rules in
+    let side = rw good at c.judge_side.ensures in
     record { input_value = side.0; side_value = side.1 }
 
-pub returns-in-Refused : goal.returns-in-Refused
-returns-in-Refused c =
-    let input = c.args.input.now in
-    sym (ap found (side_refused input (subst (SideOf (first_line input)) c.in-Refused.is c.judge_side.ensures)))
+pub returns-in_err-side : goal.returns-in_err-side
+returns-in_err-side c =
+    let told : (r : Refusal) × (c.judge_side.result ≡ Err r) × (c.from_residual.result ≡ Err (record { refusal = r; line = 1 })) = search rules in
+    let refused = rw told.1 at c.judge_side.ensures in
+    rw told.2 (sym (ap found (side_refused _ refused)))

@@ -1,8 +1,8 @@
 -- `put_cells` meets its contract: after each row the lines of the cells up to p are written, and x, y, z are the
 -- coordinates of byte p while there are places left.
 use borrow.Author.Rules.{rules}
-use mathlib.Core.Path.{◌≡◌}
-use Prim.Native.Nat.{◌+◌, ◌-◌}
+use mathlib.Core.Path.{◌≡◌, refl}
+use Prim.Native.Nat.{◌-◌}
 use native.Mathlib.Nat.{mod-lt}
 use native.Mathlib.Omega.{arith}
 use Rattle.sheet.specs.Printed.{cell_lines}
@@ -22,10 +22,10 @@ loop-p-init c =
       stands = λ l. record {
         x_in = mod-lt _ (omega arith);
         y_in = mod-lt _ (omega arith);
-        is = coordinates_of a.side a.first;
+        is = coordinates_of a.cube.side a.first;
       };
-      puts = rw none (puts_none _ _);
-      room = search rules;
+      puts = rw none (puts_none _);
+      most = omega arith;
     }
 
 pub loop-p-preserved-then-y-side : goal.loop-p-preserved-then-y-side
@@ -33,29 +33,29 @@ unfolding marks
 loop-p-preserved-then-y-side c =
     let a = c.args in
     let l = c.loop-p in
-    let t : Turn a.side a.cube.now a.first a.n a.text.now a.start l.text l.x l.y l.z l.p l.at c.lesser-stop.result = record {
-      least = omega arith;
-      most = omega arith;
-      size = c.requires.cube_len;
-      places = omega arith;
+    let t : Turn a.cube.side a.cube.bytes.now a.first a.n a.text.now l.text l.x l.y l.z l.p l.bytes c.min-stop.result = record {
+      least = a.cube.side_in.0;
+      most = a.cube.side_in.1;
+      size = a.cube.whole;
+      places = c.requires.n_in_cube;
       so_far = l.invariant;
       left = c.loop-p-test.true;
-      stops = c.lesser-stop.ensures;
+      stops = c.min-stop.ensures;
     } in
-    next t c.put_row-at.ensures (carried t (omega arith))
+    next t refl c.put_row-bytes.ensures (carried t (omega arith))
 
 pub loop-p-preserved : goal.loop-p-preserved
 unfolding marks
 loop-p-preserved c =
     let a = c.args in
     let l = c.loop-p in
-    let t : Turn a.side a.cube.now a.first a.n a.text.now a.start l.text l.x l.y l.z l.p l.at c.lesser-stop.result = record {
-      least = omega arith;
-      most = omega arith;
-      size = c.requires.cube_len;
-      places = omega arith;
+    let t : Turn a.cube.side a.cube.bytes.now a.first a.n a.text.now l.text l.x l.y l.z l.p l.bytes c.min-stop.result = record {
+      least = a.cube.side_in.0;
+      most = a.cube.side_in.1;
+      size = a.cube.whole;
+      places = c.requires.n_in_cube;
       so_far = l.invariant;
       left = c.loop-p-test.true;
-      stops = c.lesser-stop.ensures;
+      stops = c.min-stop.ensures;
     } in
-    next t c.put_row-at.ensures (stayed t (omega (arith, y_most t)))
+    next t refl c.put_row-bytes.ensures (stayed t (omega (arith, y_most t)))

@@ -1,11 +1,10 @@
 -- `put_cells` meets its contract: after each row the lines of the cells up to p are written, and x, y, z are the
 -- coordinates of byte p while there are places left.
-use borrow.Author.Rules.{rules}
 use mathlib.Core.Path.{◌≡◌, ap, sym}
 use mathlib.Core.List.{List, ◌++◌}
 use Prim.Native.Nat.{ℕ, ◌+◌, ◌-◌, ◌*◌, ◌≤◌, ◌<◌, min}
-use native.Mathlib.Nat.{mod-lt}
 use native.Mathlib.Omega.{arith}
+use borrow.Rule.Slice.PartMut.{mid_of, put_mid}
 use lib.ListN.{length, take, drop, length-drop}
 use lib.Seq.{drop-drop, length-take-le}
 use Rattle.cube.specs.Cube.{volume}
@@ -13,8 +12,8 @@ use Rattle.sheet.specs.Printed.{cell_lines}
 use Rattle.sheet.proofs.Parts.{cells_append, length_cells_at_most}
 use Rattle.sheet_text.specs.Puts.{Puts}
 use Rattle.sheet_listing.specs.Row.{row_lines}
-use Rattle.sheet_text.proofs.Puts.{puts_none, puts_append, puts_length}
-use Rattle.cube.proofs.Places.{coordinates_of, z_below}
+use Rattle.sheet_text.proofs.Puts.{puts_rest}
+use Rattle.cube.proofs.Places.{z_below}
 use Rattle.sheet_listing.proofs.Rows.{row_cells}
 use Rattle.sheet_listing.proofs.cells.put_cells.Given as goal
 
@@ -24,14 +23,13 @@ pub record Stands (S p x y z : ℕ) : Type 0 where
   pub y_in : y < S
   pub is : p ≡ x + S * (y + S * z)
 
--- The lines of the cells from byte first to before byte p are written, and there is room for the others.
-pub record SoFar (S : ℕ) (cube : List ℕ) (first end : ℕ) (text₀ : List ℕ) (start : ℕ) (text : List ℕ) (x y z p at : ℕ) :
-    Type 0 where
+-- The lines of the cells from byte first to before byte p are written, at most 21 bytes each.
+pub record SoFar (S : ℕ) (cube : List ℕ) (first end : ℕ) (text₀ text : List ℕ) (x y z p bytes : ℕ) : Type 0 where
   pub from : first ≤ p
   pub until : p ≤ end
   pub stands : p < end → Stands S p x y z
-  pub puts : Puts (cell_lines S first (take (p - first) (drop first cube))) start text₀ text at
-  pub room : at + 21 * (end - p) ≤ length text
+  pub puts : Puts (cell_lines S first (take (p - first) (drop first cube))) text₀ text bytes
+  pub most : bytes ≤ 21 * (p - first)
 
 -- The cells from p to before stop, after those from first to before p.
 pub lines_more : (S first p stop : ℕ) (cube : List ℕ) → first ≤ p → p ≤ stop →
@@ -43,18 +41,17 @@ lines_more S first p stop cube f s =
     sym (rw (drop-drop (p - first) first cube, here, all) at (cells_append S first (p - first) (stop - p) (drop first cube)))
 
 -- A turn of the loop, for the places from p to before stop: up to the row's end, and not past the range.
-pub record Turn (S : ℕ) (cube : List ℕ) (first n : ℕ) (text₀ : List ℕ) (start : ℕ) (text : List ℕ) (x y z p at stop : ℕ) :
-    Type 0 where
+pub record Turn (S : ℕ) (cube : List ℕ) (first n : ℕ) (text₀ text : List ℕ) (x y z p bytes stop : ℕ) : Type 0 where
   pub least : 2 ≤ S
   pub most : S ≤ 64
   pub size : length cube ≡ volume S
   pub places : n ≤ length cube - first
-  pub so_far : SoFar S cube first (first + n) text₀ start text x y z p at
+  pub so_far : SoFar S cube first (first + n) text₀ text x y z p bytes
   pub left : p < first + n
-  pub stops : stop ≡ min (p + (S - x)) (first + n)
+  pub stops : stop ≡ min (first + n) (p + (S - x))
 
-module _ {S : ℕ} {cube : List ℕ} {first n : ℕ} {text₀ : List ℕ} {start : ℕ} {text : List ℕ} {x y z p at stop : ℕ}
-    (t : Turn S cube first n text₀ start text x y z p at stop) where
+module _ {S : ℕ} {cube : List ℕ} {first n : ℕ} {text₀ text : List ℕ} {x y z p bytes stop : ℕ}
+    (t : Turn S cube first n text₀ text x y z p bytes stop) where
   pub here : Stands S p x y z
   here = t.so_far.stands t.left
 
@@ -81,9 +78,6 @@ module _ {S : ℕ} {cube : List ℕ} {first n : ℕ} {text₀ : List ℕ} {start
   pub same_row : x + length marks ≤ S
   same_row = omega (arith, length_marks, here.x_in)
 
-  pub room_for : at + 21 * length marks ≤ length text
-  room_for = omega (arith, length_marks, t.so_far.room)
-
   -- The coordinates past the row's end.
   pub carried : y + 1 ≡ S → stop < first + n → Stands S stop 0 0 (z + 1)
   carried e l = record {
@@ -100,32 +94,32 @@ module _ {S : ℕ} {cube : List ℕ} {first n : ℕ} {text₀ : List ℕ} {start
   }
 
   -- With the lines of these cells.
-  pub next : {after : List ℕ} {y' z' at' : ℕ} → Puts (row_lines x y z marks) at text after at' →
-      (stop < first + n → Stands S stop 0 y' z') → SoFar S cube first (first + n) text₀ start after 0 y' z' stop at'
+  pub next : {after : List ℕ} {y' z' k more : ℕ} → k ≡ length text - bytes →
+      Puts (row_lines x y z marks) (mid_of bytes k text) after more → (stop < first + n → Stands S stop 0 y' z') →
+      SoFar S cube first (first + n) text₀ (put_mid bytes k text after) 0 y' z' stop (bytes + more)
   unfolding marks
-  next r stands =
+  next rest r stands =
       let lines : cell_lines S p marks ≡ row_lines x y z marks = row_cells S p x y z marks same_row y_most here.is in
       let from : first ≤ p = t.so_far.from in
       record {
         from = omega (arith, ahead);
         until = omega (arith, t.stops);
         stands = stands;
-        puts = rw (lines_more S first p stop cube from (omega (arith, ahead)), lines) (puts_append t.so_far.puts r);
-        room =
+        puts = rw (lines_more S first p stop cube from (omega (arith, ahead)), lines) (puts_rest t.so_far.puts rest r);
+        most =
             omega (
               arith,
-              t.so_far.room,
+              t.so_far.most,
               length_marks,
               ahead,
-              r.goes_on,
-              puts_length r,
+              r.counts,
               ap length lines,
               length_cells_at_most S p marks,
             );
       }
 
 abbrev pub invariant-loop-p : goal.invariant-loop-p
-invariant-loop-p l = SoFar l.side l.cube l.first l.end l.initial.text l.start l.text l.x l.y l.z l.p l.at
+invariant-loop-p l = SoFar l.side l.cube.bytes.now l.first l.end l.initial.text l.text l.x l.y l.z l.p l.bytes
 
 abbrev pub decreases-loop-p : goal.decreases-loop-p
 decreases-loop-p l = l.end - l.p

@@ -1,5 +1,4 @@
 -- `column` meets its contract: the test is that of the definition.
-use borrow.Author.Rules.{rules}
 use borrow.Author.Tests.{eq-eqb, ne_eqb}
 use Rattle.sheet_text.specs.Column.{column_of}
 use Rattle.sheet_text.proofs.text.column.Goals as goal

@@ -1,56 +1,52 @@
--- `put_columns` meets its contract: the columns from i on are written, and those before are of what is left.
-use borrow.Author.Rules.{rules}
-use mathlib.Core.Path.{◌≡◌, refl, sym, ◌∙◌, ap, subst}
+-- `put_columns` meets its contract: the columns from i on are written, but for the last, and those before are of what is
+-- left.
+use mathlib.Core.Path.{◌≡◌, sym, ◌∙◌, ap}
 use mathlib.Core.List.{List, [], ◌∷◌, ◌++◌, append_assoc, append-nil}
-use Prim.Native.Nat.{ℕ, suc, ◌+◌, ◌-◌, ◌/◌, ◌<◌}
-use native.Mathlib.Nat.{add-zero, add-suc}
+use Prim.Native.Nat.{ℕ, suc, ◌/◌, ◌<◌}
+use native.Mathlib.Numerals.{add-one}
 use native.Mathlib.Omega.{arith}
-use lib.ListN.{length, set}
-use lib.Seq.{sets, length-sets}
+use lib.ListN.{length, set, take, drop}
+use lib.Seq.{take-set-lt, set_split, length-take-le}
+use Rattle.std.proofs.lemmas.List.{drop-set, drop_all}
 use Rattle.sheet.specs.Field.{in_columns}
 use Rattle.sheet_text.specs.Column.{last_of, column_of}
-use Rattle.sheet_text.specs.Puts.{Puts}
-use Rattle.sheet_text.proofs.Puts.{sets_before, puts_byte, puts_append, puts_length}
-use Rattle.sheet_text.proofs.Columns.{before, length_before, in_columns_lem}
+use Rattle.sheet_text.proofs.Columns.{before, in_columns_lem}
 use Rattle.sheet_text.proofs.text.put_columns.Given as goal
 
--- All columns but the last, from column i on, are written, and those before are of what is left.
-pub record SoFar (v width : ℕ) (text₀ : List ℕ) (at : ℕ) (text : List ℕ) (rest i : ℕ) : Type 0 where
-  pub within : i < width
-  pub done : List ℕ
-  pub holds : text ≡ sets text₀ (at + i) done
-  pub left : before i rest ++ done ≡ before (width - 1) (v / 10)
+-- The columns before column i, of what is left, and those written from it on are all before the last.
+pub record SoFar (v : ℕ) (columns : List ℕ) (last rest i : ℕ) : Type 0 where
+  pub is : before i rest ++ drop i (take last columns) ≡ before last (v / 10)
 
--- One column more.
-pub next : {v width : ℕ} {text₀ : List ℕ} {at : ℕ} {text : List ℕ} {rest i : ℕ} →
-    SoFar v width text₀ at text rest (suc i) → SoFar v width text₀ at (set text (at + i) (column_of rest)) (rest / 10) i
-unfolding before
-next {text₀ = text₀} {at = at} {rest = rest} {i = i} s = record {
-  within = omega (arith, s.within);
-  done = column_of rest ∷ s.done;
-  holds = rw (s.holds, add-suc) (sets_before s.done text₀ (at + i) (column_of rest));
-  left = sym (append_assoc (before i (rest / 10)) (column_of rest ∷ []) s.done) ∙ s.left;
-}
+module _ {v : ℕ} {columns : List ℕ} {last : ℕ} where
+  -- None yet.
+  pub none : length columns ≡ suc last → SoFar v columns last (v / 10) last
+  none size = record {
+    is = rw (drop_all last (take last columns) (omega (arith, length-take-le last columns (omega arith)))) (append-nil _);
+  }
 
-module _ {v width : ℕ} {text₀ : List ℕ} {at : ℕ} {text : List ℕ} {rest i : ℕ} (s : SoFar v width text₀ at text rest i) where
-  -- The text keeps its length.
-  pub kept : length text ≡ length text₀
-  kept = ap length s.holds ∙ length-sets text₀ (at + i) s.done
+  module _ {rest : ℕ} (size : length columns ≡ suc last) where
+    -- One column more.
+    pub next : {i : ℕ} → i < last → SoFar v columns last rest (suc i) →
+        SoFar v (set columns i (column_of rest)) last (rest / 10) i
+    unfolding before
+    next {i} l s =
+        let e : length (take last columns) ≡ last = length-take-le last columns (omega arith) in
+        record {
+          is =
+              rw (
+                take-set-lt last columns i (column_of rest) l,
+                drop-set (take last columns) i (column_of rest) (omega arith),
+                add-one,
+              )
+              (sym (append_assoc (before i (rest / 10)) (column_of rest ∷ []) (drop (suc i) (take last columns))) ∙ s.is);
+        }
 
-  -- All columns, with the last.
-  pub all : i ≡ 0 → Puts (in_columns width v) at text₀ (set text (at + (width - 1)) (last_of v)) (at + width)
-  unfolding before
-  all none =
-      let last : suc (width - 1) ≡ width = omega (arith, s.within) in
-      let whole : s.done ≡ before (width - 1) (v / 10) = rw none at s.left in
-      let written : Puts (before (width - 1) (v / 10)) at text₀ text (at + (width - 1)) =
-      record { holds = s.holds ∙ rw (none, add-zero, whole); goes_on = rw length_before } in
-      subst (λ c. Puts c at text₀ (set text (at + (width - 1)) (last_of v)) (at + width))
-      (sym (in_columns_lem (width - 1) v) ∙ ap (λ w. in_columns w v) last)
-      (puts_append written (puts_byte (omega arith)))
+    -- All columns, with the last.
+    pub all : SoFar v columns last rest 0 → set columns last (last_of v) ≡ in_columns (suc last) v
+    unfolding before
+    all s =
+        rw (in_columns_lem, set_split columns last (last_of v) (omega arith), drop_all (suc last) columns (omega arith))
+        (ap (◌++ last_of v ∷ []) s.is)
 
 abbrev pub invariant-loop-i : goal.invariant-loop-i
-invariant-loop-i l = SoFar l.v l.width l.initial.text l.at l.text l.rest l.i
-
-abbrev pub decreases-loop-i : goal.decreases-loop-i
-decreases-loop-i l = l.i
+invariant-loop-i l = SoFar l.v l.columns l.last l.rest l.i

@@ -7,7 +7,7 @@ use lib.IntN.{ℤ, pos}
 use lib.ListN.{get_or}
 use Rattle.integers.proofs.Magnitude.{within_pos}
 use Rattle.cubic.proofs.Fits.{read}
-use Rattle.surface.specs.declared.volume.Volume.{Volume}
+use Rattle.surface.specs.Volume.{Volume}
 use Rattle.scan.proofs.Natural.{answer_read, stride_read}
 use Rattle.rows.specs.declared.Line.{Line}
 use Rattle.rows.specs.Lines.{start_line}
@@ -32,11 +32,11 @@ module _ {points : List ℕ} {n m l : ℕ} (q : InLimits points n m l) {a : ℕ}
 pub start-requires : goal.start-requires
 start-requires c =
     let r = c.requires in
-    rw (stride_read r.small_stride, point_read r.in_limits r.a_bound c.coordinate.ensures)
+    rw (stride_read r.small_stride, point_read r.in_limits r.a_bound c.from.ensures)
     (record { stride = r.small_stride; point = within_pos (omega (arith, below r.in_limits r.a_bound)) })
 
 pub returns : goal.returns
 returns c =
     let r = c.requires in
-    started (stride_read r.small_stride) (point_read r.in_limits r.a_bound c.coordinate.ensures)
+    started (stride_read r.small_stride) (point_read r.in_limits r.a_bound c.from.ensures)
     c.start_volume-v.ensures c.start.ensures

@@ -5,10 +5,8 @@ use Prim.Native.Nat.{ℕ, ◌+◌, ◌*◌, ◌<◌}
 use native.Mathlib.Omega.{arith}
 use lib.IntN.{ℤ, pos}
 use Rattle.cubic.proofs.Fits.{read}
-use Rattle.surface.specs.declared.Surface.{Surface}
-use Rattle.surface.specs.declared.volume.Volume.{Volume}
-use Rattle.surface.specs.Surface.{surface_of}
-use Rattle.surface.specs.Volume.{volume_of, start_volume, StartsVolume}
+use Rattle.surface.specs.Surface.{Surface, surface_of}
+use Rattle.surface.specs.Volume.{Volume, volume_of, start_volume, StartsVolume}
 use Rattle.surface.proofs.Slices.{volume_start_of}
 use Rattle.scan.proofs.Natural.{answer_read}
 use Rattle.rows.specs.Face.{doubled_face}
@@ -40,12 +38,12 @@ count_read q e = answer_read e (omega (arith, q.l_most))
 
 pub start-requires : goal.start-requires
 start-requires c =
-    faces c.requires.in_limits c.requires.a_bound (count_read c.requires.in_limits c.count.ensures)
+    faces c.requires.in_limits c.requires.a_bound (count_read c.requires.in_limits c.from.ensures)
     c.start_surface-f0.ensures c.start_surface-f1.ensures
     c.start_surface-f2.ensures c.start_surface-f3.ensures
 
 pub returns : goal.returns
 returns c =
-    started c.requires.in_limits c.requires.a_bound (count_read c.requires.in_limits c.count.ensures)
+    started c.requires.in_limits c.requires.a_bound (count_read c.requires.in_limits c.from.ensures)
     c.start_surface-f0.ensures c.start_surface-f1.ensures
     c.start_surface-f2.ensures c.start_surface-f3.ensures c.start.ensures

@@ -9,18 +9,15 @@ use native.Mathlib.Omega.{arith}
 use lib.IntN.{ℤ}
 use mir.Facts.{to_z-of_z}
 use Rattle.cubic.specs.Differences.{nexts}
-use Rattle.surface.specs.declared.volume.Volume.{Volume}
-use Rattle.surface.specs.declared.Surface.{Surface}
-use Rattle.surface.specs.Surface.{surface_at, long_steps, some_long}
-use Rattle.surface.specs.Volume.{slice_of, next_volume, volume_at, along_v, long_in_slice, long_to_next}
+use Rattle.surface.specs.Surface.{Surface, surface_at, long_steps, some_long}
+use Rattle.surface.specs.Volume.{Volume, slice_of, next_volume, volume_at, along_v, long_in_slice, long_to_next}
 use Rattle.surface.proofs.Search.{found_inside, found_between, found_nowhere}
 use Rattle.surface.proofs.volume.step_too_long.Goals as goal
 use Rattle.surface.proofs.volume.step_too_long.Invariants.{AtSlice}
 
-pub search-init : goal.search-init
+pub loop-rest-init : goal.loop-rest-init
 unfolding volume_at surface_at nexts
-search-init c = record {
-  not_found = refl;
+loop-rest-init c = record {
   within = omega arith;
   rest_is = refl;
   passed = λ b h. absurd (omega arith);
@@ -28,7 +25,7 @@ search-init c = record {
 }
 
 -- At slice k, with the slice, the first differences along v, and what the searches found.
-module _ {v rest : Volume} {N : ℤ} {n m l k : ℕ} {f : Bool} (a : AtSlice v N n m l f rest k) where
+module _ {v rest : Volume} {N : ℤ} {n m l k : ℕ} (a : AtSlice v N n m l rest k) where
   slice_is : {s : Surface} → s ≡ slice_of rest → s ≡ slice_of (volume_at v k)
   slice_is e = e ∙ ap slice_of a.rest_is
 
@@ -44,32 +41,25 @@ module _ {v rest : Volume} {N : ℤ} {n m l k : ℕ} {f : Bool} (a : AtSlice v N
 
 pub step_too_long-requires : goal.step_too_long-requires
 step_too_long-requires c =
-    let a = c.search.invariant in
-    rw (slice_is a c.slice.ensures, to_z-of_z c.ranges.scale) (c.requires.in_slice c.search.k a.within)
-
-pub overflow_add-m : goal.overflow_add-m
-overflow_add-m c = record { fits = omega (arith, c.requires.m_most) }
-
-pub overflow_add-n : goal.overflow_add-n
-overflow_add-n c = record { fits = omega (arith, c.requires.n_most) }
+    let a = c.loop-rest.invariant in
+    rw (slice_is a c.slice.ensures, to_z-of_z c.ranges.scale) (c.requires.in_slice c.loop-rest.k a.within)
 
 pub some_long-requires : goal.some_long-requires
 some_long-requires c =
-    let a = c.search.invariant in
-    rw (steps_is a c.along_v-steps.ensures c.slice-in-search.ensures, to_z-of_z c.ranges.scale, add-one, add-one)
-    (c.requires.to_next c.search.k (omega (arith, a.within, c.if-k-l.false)))
+    let a = c.loop-rest.invariant in
+    rw (steps_is a c.steps.ensures c.slice-in-loop-rest.ensures, to_z-of_z c.ranges.scale, add-one, add-one)
+    (c.requires.to_next c.loop-rest.k (omega (arith, a.within, c.if-k-l.false)))
 
 pub next-rest-requires : goal.next-rest-requires
 next-rest-requires c =
-    let a = c.search.invariant in
-    rw a.rest_is (c.requires.room c.search.k (omega (arith, a.within, c.if-k-l.false)))
+    let a = c.loop-rest.invariant in
+    rw a.rest_is (c.requires.room c.loop-rest.k (omega (arith, a.within, c.if-k-l.false)))
 
-pub search-preserved : goal.search-preserved
+pub loop-rest-preserved : goal.loop-rest-preserved
 unfolding volume_at surface_at nexts
-search-preserved c =
-    let a = c.search.invariant in
+loop-rest-preserved c =
+    let a = c.loop-rest.invariant in
     record {
-      not_found = a.not_found;
       within = omega (arith, a.within, c.if-k-l.false);
       rest_is = rw add-one (c.next-rest.ensures ∙ ap next_volume a.rest_is);
       passed =
@@ -77,14 +67,14 @@ search-preserved c =
           (sym (in_slice a c.slice.ensures c.step_too_long.ensures) ∙ c.if-step_too_long.false);
       passed_on =
           below_more _ _ a.passed_on
-          (sym (to_next a c.along_v-steps.ensures c.slice-in-search.ensures c.some_long.ensures) ∙
+          (sym (to_next a c.steps.ensures c.slice-in-loop-rest.ensures c.some_long.ensures) ∙
           c.if-some_long.false);
     }
 
 pub returns-then-step_too_long : goal.returns-then-step_too_long
 returns-then-step_too_long c =
     let s = c.args in
-    let a = c.search.invariant in
+    let a = c.loop-rest.invariant in
     sym (found_inside s.volume s.scale s.n s.m s.l a.within
     (rw (to_z-of_z c.ranges.scale)
     at (sym (in_slice a c.slice.ensures c.step_too_long.ensures) ∙ c.if-step_too_long.true)))
@@ -92,9 +82,8 @@ returns-then-step_too_long c =
 pub returns-then-k-l : goal.returns-then-k-l
 returns-then-k-l c =
     let s = c.args in
-    let a = c.search.invariant in
+    let a = c.loop-rest.invariant in
     let none = sym (in_slice a c.slice.ensures c.step_too_long.ensures) ∙ c.if-step_too_long.false in
-    a.not_found ∙
     sym (found_nowhere s.volume s.scale s.n s.m s.l
     (λ q h. rw (to_z-of_z c.ranges.scale) at (below_more _ _ a.passed none q (omega (arith, c.if-k-l.true))))
     (λ q h. rw (to_z-of_z c.ranges.scale) at (a.passed_on q (omega (arith, c.if-k-l.true)))))
@@ -102,7 +91,7 @@ returns-then-k-l c =
 pub returns-then-some_long : goal.returns-then-some_long
 returns-then-some_long c =
     let s = c.args in
-    let a = c.search.invariant in
+    let a = c.loop-rest.invariant in
     sym (found_between s.volume s.scale s.n s.m s.l (omega (arith, a.within, c.if-k-l.false))
     (rw (to_z-of_z c.ranges.scale)
-    at (sym (to_next a c.along_v-steps.ensures c.slice-in-search.ensures c.some_long.ensures) ∙ c.if-some_long.true)))
+    at (sym (to_next a c.steps.ensures c.slice-in-loop-rest.ensures c.some_long.ensures) ∙ c.if-some_long.true)))

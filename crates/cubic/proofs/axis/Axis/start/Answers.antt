@@ -5,11 +5,8 @@ use mir.Syntax.{w64}
 use mir.Val.{SFits}
 use mir.Facts.{to_z-of_z}
 use Rattle.cubic.specs.Axis.{start_of}
-use Rattle.cubic.proofs.Fits.{held, mul, mul_fits}
+use Rattle.cubic.proofs.Fits.{held, mul}
 use Rattle.cubic.proofs.axis.Axis.start.Goals as goal
-
-pub overflow_mul-result : goal.overflow_mul-result
-overflow_mul-result c = mul_fits (held c.requires.stride (lit< tt)) (held c.requires.point (lit< tt)) (lit< tt)
 
 pub returns : goal.returns
 unfolding start_of

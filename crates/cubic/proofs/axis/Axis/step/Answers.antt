@@ -4,12 +4,11 @@ use Prim.Native.Nat.{◌^◌}
 use lib.Dec.{lit<}
 use lib.IntN.{ℤ}
 use Rattle.integers.proofs.Magnitude.{within_add}
-use Rattle.cubic.specs.declared.differences.Cubic.{Cubic}
 use Rattle.cubic.specs.declared.axis.Axis.{Axis}
-use Rattle.cubic.specs.Differences.{next_of}
+use Rattle.cubic.specs.Differences.{Cubic, next_of}
 use Rattle.cubic.specs.Axis.{settle_of, step_of}
 use Rattle.cubic.specs.Room.{Fields, Room, Settles, Steps}
-use Rattle.cubic.proofs.Fits.{read, held, wider, fitting}
+use Rattle.cubic.proofs.Fits.{read, held, wider}
 use Rattle.cubic.proofs.axis.Axis.step.Goals as goal
 
 -- The next sample's fields are sums of two.
@@ -40,7 +39,7 @@ module _ {N h : ℤ} {a : Axis} {n : Cubic} (p : Steps N h a) where
 pub settle-requires : goal.settle-requires
 settle-requires c =
     let p = c.requires in
-    let next = next_fields p.cubic c.next-next.ensures in settles p (search fitting)
+    let next = next_fields p.cubic c.next.ensures in settles p (search wider)
 
 pub returns : goal.returns
-returns c = settled_next c.requires c.next-next.ensures c.settle.ensures
+returns c = settled_next c.requires c.next.ensures c.settle.ensures
