@@ -131,20 +131,20 @@ enum {
    on every axis, is at most steps: no step is too long there, and the step test ends without a walk. Otherwise 0
    (GIDZKHALU_WALKED): the test has walked along all steps. Listing, drawing and sheets use the same test.
    Refusals: 51, 11, 13, 14, 15.
-   Stack: 120 bytes. Instructions: 4769. Environment: any. */
+   Stack: 72 bytes. Instructions: 4709. Environment: any. */
 int64_t gidzkhalu_check_curve(uint32_t side, const uint8_t *points, size_t points_len, uint32_t steps);
 
 /* Writes x y z of the cell of samples 0 to steps from the front of the list and leaves the rest. Answer:
    steps + 1.
    Refusals: 51, 11, 13, 22 (the list is shorter than 3 (steps + 1) bytes), 14, 15.
-   Stack: 264 bytes. Instructions: 16848. Environment: any. */
+   Stack: 248 bytes. Instructions: 18682. Environment: any. */
 int64_t gidzkhalu_list_curve(uint32_t side, const uint8_t *points, size_t points_len, uint32_t steps,
                              uint8_t *list, size_t list_len);
 
 /* Draws a curve, over or under, and writes the count of new cells, from 0 to steps + 1, into *new_cells. Answer:
    steps + 1.
    Refusals: 51, 55, 11, 21, 12, 13, 14, 15.
-   Stack: 584 bytes. Instructions: 25378. Environment: any. */
+   Stack: 488 bytes. Instructions: 23999. Environment: any. */
 int64_t gidzkhalu_draw_curve(uint32_t side, const uint8_t *points, size_t points_len, uint32_t steps, uint8_t mark,
                              uint32_t choice, uint8_t *grid, size_t grid_len, uint32_t *new_cells);
 
@@ -152,14 +152,14 @@ int64_t gidzkhalu_draw_curve(uint32_t side, const uint8_t *points, size_t points
    most three times the largest gap between consecutive points on an axis, or 1 if all points agree, so never above 189.
    Some counts above it may be refused all the same: for the x 0 0 3 0, y and z all equal, it is 1, and 2 to 6 are refused.
    Refusals: 51, 11, 14.
-   Stack: 144 bytes. Instructions: 20641. Environment: any. */
+   Stack: 132 bytes. Instructions: 20692. Environment: any. */
 int64_t gidzkhalu_choose_steps(uint32_t side, const uint8_t *points, size_t points_len);
 
 /* Draws a curve, over or under, with the step count that gidzkhalu_choose_steps answers, and writes the count of new cells,
    from 0 to the number of samples, into *new_cells: all is as gidzkhalu_draw_curve leaves it with that count. Answer: the
    number of samples, which is the count + 1.
    Refusals: 51, 55, 11, 21, 12, 14.
-   Stack: 600 bytes. Instructions: 30194. Environment: any. */
+   Stack: 488 bytes. Instructions: 30016. Environment: any. */
 int64_t gidzkhalu_draw_chosen(uint32_t side, const uint8_t *points, size_t points_len, uint8_t mark, uint32_t choice,
                               uint8_t *grid, size_t grid_len, uint32_t *new_cells);
 
@@ -168,7 +168,7 @@ int64_t gidzkhalu_draw_chosen(uint32_t side, const uint8_t *points, size_t point
    the same number. They list the same cells, the flip in reverse order, and in all else, but for paths, have the same
    answers, new cells and grids. The flip of the flip is the curve. Nothing is asked of the coordinates. Answer: 0.
    Refusals: 51, 52.
-   Stack: 8 bytes. Instructions: 34. Environment: any. */
+   Stack: 20 bytes. Instructions: 40. Environment: any. */
 int64_t gidzkhalu_flip_curve(const uint8_t *points, size_t points_len, uint8_t *flipped, size_t flipped_len);
 
 /* Paths: a curve's cells face to face. The path begins with the cell of sample 0. From the cell of each sample it leads to
@@ -183,14 +183,14 @@ int64_t gidzkhalu_flip_curve(const uint8_t *points, size_t points_len, uint8_t *
    Refusals: 51, 11, 13, 14, 15, 22 (the list is shorter than 3 bytes for each cell of the path).
    With a list of GIDZKHALU_PATH_LIST_BYTES(steps) or more nothing is counted; with a shorter one the cells are counted
    first, by a walk of its own.
-   Stack: 328 bytes. Instructions: 39703. Environment: any. */
+   Stack: 312 bytes. Instructions: 37615. Environment: any. */
 int64_t gidzkhalu_list_path(uint32_t side, const uint8_t *points, size_t points_len, uint32_t steps,
                             uint8_t *list, size_t list_len);
 
 /* Draws the curve's path, over or under, and writes the count of new cells, from 0 to the number of cells, into
    *new_cells. Answer: the number of cells.
    Refusals: 51, 55, 11, 21, 12, 13, 14, 15.
-   Stack: 344 bytes. Instructions: 21241. Environment: any. */
+   Stack: 280 bytes. Instructions: 20705. Environment: any. */
 int64_t gidzkhalu_draw_path(uint32_t side, const uint8_t *points, size_t points_len, uint32_t steps, uint8_t mark,
                             uint32_t choice, uint8_t *grid, size_t grid_len, uint32_t *new_cells);
 
@@ -199,13 +199,13 @@ int64_t gidzkhalu_draw_path(uint32_t side, const uint8_t *points, size_t points_
 
 /* Whether a patch can be drawn. Answer: 0.
    Refusals: 51, 11, 13, 14, 15.
-   Stack: 560 bytes. Instructions: 3381523. Environment: any. */
+   Stack: 512 bytes. Instructions: 3381311. Environment: any. */
 int64_t gidzkhalu_check_patch(uint32_t side, const uint8_t *points, size_t points_len, uint32_t n, uint32_t m);
 
 /* Draws a patch, over or under, and writes the count of new cells, from 0 to (n + 1) (m + 1), into *new_cells. Answer:
    (n + 1) (m + 1).
    Refusals: 51, 55, 11, 21, 12, 13, 14, 15.
-   Stack: 1928 bytes. Instructions: 6508956. Environment: any. */
+   Stack: 2024 bytes. Instructions: 6443858. Environment: any. */
 int64_t gidzkhalu_draw_patch(uint32_t side, const uint8_t *points, size_t points_len, uint32_t n, uint32_t m,
                              uint8_t mark, uint32_t choice, uint8_t *grid, size_t grid_len, uint32_t *new_cells);
 
@@ -214,7 +214,7 @@ int64_t gidzkhalu_draw_patch(uint32_t side, const uint8_t *points, size_t points
    accepted or refused with the same number and have the same answers, new cells and grids. The flip of the flip is the
    patch. Nothing is asked of the coordinates, *n and *m. Answer: 0.
    Refusals: 51, 52.
-   Stack: 24 bytes. Instructions: 90. Environment: any. */
+   Stack: 72 bytes. Instructions: 118. Environment: any. */
 int64_t gidzkhalu_flip_patch(const uint8_t *points, size_t points_len, uint32_t *n, uint32_t *m, uint8_t *flipped,
                              size_t flipped_len);
 
@@ -224,14 +224,14 @@ int64_t gidzkhalu_flip_patch(const uint8_t *points, size_t points_len, uint32_t 
 /* Whether a solid can be drawn. Answer: 0.
    Refusals: 51, 11, 13, 14, 15.
    memcpy is called for 192 bytes, at most three times.
-   Stack: 3272 bytes. Instructions: 2959193. Environment: any. */
+   Stack: 2808 bytes. Instructions: 2958444. Environment: any. */
 int64_t gidzkhalu_check_solid(uint32_t side, const uint8_t *points, size_t points_len, uint32_t n, uint32_t m, uint32_t l);
 
 /* Draws a solid, over or under, and writes the count of new cells, from 0 to (n + 1) (m + 1) (l + 1), into *new_cells.
    Answer: (n + 1) (m + 1) (l + 1).
    Refusals: 51, 55, 11, 21, 12, 13, 14, 15.
    memcpy is called for 192 bytes, at most four times.
-   Stack: 5896 bytes. Instructions: 5168179. Environment: any. */
+   Stack: 6168 bytes. Instructions: 5125975. Environment: any. */
 int64_t gidzkhalu_draw_solid(uint32_t side, const uint8_t *points, size_t points_len, uint32_t n, uint32_t m, uint32_t l,
                              uint8_t mark, uint32_t choice, uint8_t *grid, size_t grid_len, uint32_t *new_cells);
 
@@ -242,14 +242,14 @@ int64_t gidzkhalu_draw_solid(uint32_t side, const uint8_t *points, size_t points
 /* Draws a curve on the strip, over or under, and writes the count of new cells, from 0 to steps + 1, into *new_cells. Answer:
    steps + 1.
    Refusals: 51, 55, 11, 23, 21, 12, 13, 24, 14, 15.
-   Stack: 584 bytes. Instructions: 4076. Environment: any. */
+   Stack: 520 bytes. Instructions: 3964. Environment: any. */
 int64_t gidzkhalu_draw_strip_curve(uint32_t side, const uint8_t *points, size_t points_len, uint32_t steps, uint8_t mark,
                                    uint32_t choice, uint8_t *grid, size_t grid_len, uint32_t *new_cells);
 
 /* Draws a patch on the strip, over or under, and writes the count of new cells, from 0 to (n + 1) (m + 1), into *new_cells.
    Answer: (n + 1) (m + 1).
    Refusals: 51, 55, 11, 23, 21, 12, 13, 24, 14, 15.
-   Stack: 1944 bytes. Instructions: 431377. Environment: any. */
+   Stack: 2072 bytes. Instructions: 427264. Environment: any. */
 int64_t gidzkhalu_draw_strip_patch(uint32_t side, const uint8_t *points, size_t points_len, uint32_t n, uint32_t m,
                                    uint8_t mark, uint32_t choice, uint8_t *grid, size_t grid_len, uint32_t *new_cells);
 
@@ -264,13 +264,13 @@ int64_t gidzkhalu_draw_strip_patch(uint32_t side, const uint8_t *points, size_t 
 
 /* Writes x y z of the swatch's cell, 3 bytes. Answer: 0.
    Refusals: 53, 52, 11, then the swatch's.
-   Stack: 88 bytes. Instructions: 179. Environment: default. */
+   Stack: 8 bytes. Instructions: 116. Environment: default. */
 int64_t gidzkhalu_to_cell(uint32_t side, uint32_t kind, float a, float b, float c, uint8_t *cell, size_t cell_len);
 
 /* Writes red, green and blue of the swatch half-way between two, 12 bytes: the bit pattern of each f32, the low byte
    first. Answer: 0.
    Refusals: 53 (of either kind), 52, then the first swatch's, then the second's.
-   Stack: 152 bytes. Instructions: 241. Environment: default. */
+   Stack: 8 bytes. Instructions: 123. Environment: default. */
 int64_t gidzkhalu_half_way(uint32_t kind, float a, float b, float c, uint32_t kind2, float a2, float b2, float c2,
                            uint8_t *channels, size_t channels_len);
 
@@ -282,7 +282,7 @@ int64_t gidzkhalu_half_way(uint32_t kind, float a, float b, float c, uint32_t ki
    leaves *new_cells. Answer: the number of curve lines.
    Refusals: 21; then of line 1: 41, 42, 11, 43; then of each later line in turn: 44, 41, 42, 12, 13, 14, 15.
    memset is called for at most 64000 bytes. An input that goes on after 200 curve lines takes no longer.
-   Stack: 536 bytes. Instructions: 5350140. Environment: any. */
+   Stack: 600 bytes. Instructions: 4308941. Environment: any. */
 int64_t gidzkhalu_draw_sheet(const uint8_t *input, size_t input_len, uint8_t *buffer, size_t buffer_len,
                              uint32_t *detail, uint32_t *new_cells);
 
@@ -291,7 +291,7 @@ int64_t gidzkhalu_draw_sheet(const uint8_t *input, size_t input_len, uint8_t *bu
    past the cube are none: a count that reaches past it lists up to its end, and a first at its end or past it lists
    nothing and answers 0. Answer: the number of bytes.
    Refusals: 11, 21, 22 (the text is shorter than 21 (count + 1) bytes, wherever the part begins and ends).
-   Stack: 117 bytes. Instructions: 21094503. Environment: any. */
+   Stack: 141 bytes. Instructions: 21127260. Environment: any. */
 int64_t gidzkhalu_list_part(uint32_t side, const uint8_t *cube, size_t cube_len, size_t first, size_t count,
                             uint8_t *text, size_t text_len);
 
@@ -301,13 +301,13 @@ int64_t gidzkhalu_list_part(uint32_t side, const uint8_t *cube, size_t cube_len,
    Answer: the number of bytes.
    Refusals: 11, 21, 22 (the text is shorter than 256 lines, 13056 bytes).
    memset is called for 8192 bytes.
-   Stack: 8296 bytes. Instructions: 2397972. Environment: any. */
+   Stack: 8312 bytes. Instructions: 2405656. Environment: any. */
 int64_t gidzkhalu_totals(uint32_t side, const uint8_t *cube, size_t cube_len, uint8_t *text, size_t text_len);
 
 /* Writes the line of a refused sheet from the front of the text and leaves the rest: REFUSED, number and line in 5
    columns each, a line feed. Answer: 18.
    Refusals: 54 (number or line is above 99999), 22 (the text is shorter than 18 bytes).
-   Stack: 8 bytes. Instructions: 124. Environment: any. */
+   Stack: 8 bytes. Instructions: 129. Environment: any. */
 int64_t gidzkhalu_refusal_line(uint32_t number, uint32_t line, uint8_t *text, size_t text_len);
 
 #ifdef __cplusplus
