@@ -21,19 +21,20 @@ def show(point, what, found):
 
 # 1
 enums = grep(r'^\s*(pub(\([a-z]+\))? )?enum \w+')
-def cases(f, i):
+def inside(f, i, pattern):
+    """The matches of a pattern in the lines of an item that begins on line i of f."""
     out = []
     for g, j, l in CODE:
         if g == f and j > i:
             if l.startswith('}'):
                 break
-            m = re.match(r'\s+([A-Z]\w*)(\(.*\))?( = \d+)?,', l)
+            m = re.match(pattern, l)
             if m:
-                out.append((m.group(1), bool(m.group(2))))
+                out.append(m)
     return out
 def may_fail(enum):
-    found = cases(enum[0], enum[1])
-    return any(c in ('Refused', 'TooLong', 'Failed', 'Line') for c, _ in found)
+    found = inside(enum[0], enum[1], r'\s+([A-Z]\w*)(\(.*\))?( = \d+)?,')
+    return any(m.group(1) in ('Refused', 'TooLong', 'Failed', 'Line') for m in found)
 show('1a', 'enums with a case for failure, the shape of Option or Result', [e for e in enums if may_fail(e)])
 show('1b', 'flags beside a value: fields of type bool', grep(r'^\s+(pub )?(failed|fits|hexadecimal): bool,$'))
 show('1c', 'numbers for refusals', grep(r'(return |efused\()[1-5][0-9]\b|^\s+[1-5][0-9]$|\{ [1-5][0-9] \}|=> .*efused\([1-5][0-9]\)'))
@@ -72,14 +73,7 @@ twins = [g for g in groups.values() if len(g) > 1]
 show('2a', 'functions of one shape with another: ' + f'{len(twins)} groups', [p for g in twins for p in g])
 records = defaultdict(list)
 for f, i, l in grep(r'^\s*(pub(\([a-z]+\))? )?struct \w+'):
-    body = []
-    for g, j, m in CODE:
-        if g == f and j > i:
-            if m.startswith('}'):
-                break
-            w = re.match(r'\s+(pub )?(\w+):', m)
-            if w:
-                body.append(w.group(2))
+    body = [m.group(2) for m in inside(f, i, r'\s+(pub )?(\w+):')]
     records[tuple(body)].append((f, i, l))
 show('2b', 'structs with the fields of another', [p for k, g in records.items() if len(g) > 1 and len(k) > 2 for p in g])
 
