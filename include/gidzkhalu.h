@@ -168,7 +168,7 @@ int64_t gidzkhalu_draw_chosen(uint32_t side, const uint8_t *points, size_t point
    the same number. They list the same cells, the flip in reverse order, and in all else, but for paths, have the same
    answers, new cells and grids. The flip of the flip is the curve. Nothing is asked of the coordinates. Answer: 0.
    Refusals: 51, 52.
-   Stack: 20 bytes. Instructions: 40. Environment: any. */
+   Stack: 8 bytes. Instructions: 34. Environment: any. */
 int64_t gidzkhalu_flip_curve(const uint8_t *points, size_t points_len, uint8_t *flipped, size_t flipped_len);
 
 /* Paths: a curve's cells face to face. The path begins with the cell of sample 0. From the cell of each sample it leads to
@@ -214,7 +214,7 @@ int64_t gidzkhalu_draw_patch(uint32_t side, const uint8_t *points, size_t points
    accepted or refused with the same number and have the same answers, new cells and grids. The flip of the flip is the
    patch. Nothing is asked of the coordinates, *n and *m. Answer: 0.
    Refusals: 51, 52.
-   Stack: 72 bytes. Instructions: 118. Environment: any. */
+   Stack: 24 bytes. Instructions: 90. Environment: any. */
 int64_t gidzkhalu_flip_patch(const uint8_t *points, size_t points_len, uint32_t *n, uint32_t *m, uint8_t *flipped,
                              size_t flipped_len);
 

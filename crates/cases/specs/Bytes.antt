@@ -11,6 +11,14 @@ pub record FilledBy (first step : ℕ) (before after : List ℕ) : Type 0 where
 abbrev pub begun_by : (lead : ℕ) → Digest
 begun_by lead = record { marked = 0; first = lead % 99999989; second = lead % 99999959 }
 
+-- A digest by its remainders.
+abbrev pub reduced : Digest → Digest
+reduced d = record {
+  marked = d.marked % 100000000;
+  first = d.first % 99999989;
+  second = d.second % 99999959;
+}
+
 -- The digest with one byte more: one more that is not 0, or not, and one more digit of base 256.
 abbrev pub with_byte : Digest → (byte : ℕ) → Digest
 with_byte d b = record {

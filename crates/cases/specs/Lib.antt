@@ -1,4 +1,4 @@
--- `Record`: the form of case records. `Block`: a heading that was read. `Bytes`: the bytes lent to a call, and their digest.
+-- `Record`: the form of case records. `Block`: how a run goes on. `Bytes`: the bytes lent to a call, and their digest.
 pub mod Record
 pub mod Block
 pub mod Bytes

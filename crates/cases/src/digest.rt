@@ -1,15 +1,15 @@
 // What bytes hold as a whole, taken part by part.
-ghost use Rattle.std.specs.Prelude.{◌≡◌};
-ghost use Rattle.cases.specs.Bytes.{begun_by, with_byte, with_bytes};
+ghost use Rattle.std.specs.Prelude.{◌≡◌, ◌%◌, ◌<◌};
+ghost use Rattle.cases.specs.Bytes.{begun_by, reduced, with_byte, with_bytes};
 
 // How many bytes are not 0, modulo 10^8, and the remainders, by two primes, of the number whose digits of base 256 are a
 // leading number and then the bytes. The primes are below 10^8, so that eight digits hold a remainder, and the powers of
 // 256 up to the longest listing's and the longest grid's differ by each of them.
 #[derive(Clone, Copy)]
 pub struct Digest {
-    pub marked: u32,
-    pub first: u32,
-    pub second: u32,
+    pub marked: u64,
+    pub first: u64,
+    pub second: u64,
 }
 
 impl Digest {
@@ -19,16 +19,20 @@ impl Digest {
     {
         Digest {
             marked: 0,
-            first: (lead % 99999989) as u32,
-            second: (lead % 99999959) as u32,
+            first: lead % 99999989,
+            second: lead % 99999959,
         }
     }
 
     // The digest of more bytes after those before.
     pub fn extended(self, bytes: &[u8]) -> Digest
-        ensures { result ≡ with_bytes self bytes.now }
+        ensures { result ≡ with_bytes (reduced self) bytes.now }
     {
-        let mut digest = self;
+        let mut digest = Digest {
+            marked: self.marked % 100000000,
+            first: self.first % 99999989,
+            second: self.second % 99999959,
+        };
         for byte in bytes {
             digest = digest.with(*byte);
         }
@@ -37,19 +41,24 @@ impl Digest {
 
     // The digest of one byte more.
     fn with(self, byte: u8) -> Digest
+        requires { (self.marked < 100000000) × (self.first < 99999989) × (self.second < 99999959) }
         ensures { result ≡ with_byte self byte }
     {
-        let marked = u64::from(self.marked);
-        let first = u64::from(self.first) * 256 + u64::from(byte);
-        let second = u64::from(self.second) * 256 + u64::from(byte);
         Digest {
             marked: if byte == 0 {
                 self.marked
             } else {
-                ((marked + 1) % 100000000) as u32
+                (self.marked + 1) % 100000000
             },
-            first: (first % 99999989) as u32,
-            second: (second % 99999959) as u32,
+            first: (self.first * 256 + u64::from(byte)) % 99999989,
+            second: (self.second * 256 + u64::from(byte)) % 99999959,
         }
     }
+}
+
+// The last eight decimal digits of a number.
+pub fn eight(n: u64) -> u32
+    ensures { result ≡ n % 100000000 }
+{
+    (n % 100000000) as u32
 }

@@ -2,7 +2,7 @@
 ghost use Rattle.std.specs.Prelude.{◌^◌, ◌<◌, ◌≤◌, length};
 
 use crate::answer::{Answer, Digits};
-use crate::digest::Digest;
+use crate::digest::{Digest, eight};
 use crate::record::{byte, number};
 
 // A letter, a number, a number of new cells, and three for the lent bytes: their digest, begun with their number.
@@ -11,7 +11,13 @@ pub fn holding(letter: u8, number: u32, new_cells: u32, lent: &[u8]) -> Answer<5
     Answer {
         letter,
         digits: Digits::Decimal,
-        numbers: [number, new_cells, held.marked, held.first, held.second],
+        numbers: [
+            number,
+            new_cells,
+            eight(held.marked),
+            eight(held.first),
+            eight(held.second),
+        ],
     }
 }
 

@@ -13,3 +13,4 @@ pub mod lent;
 pub mod points;
 pub mod record;
 pub mod run;
+pub mod turns;

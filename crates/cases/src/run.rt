@@ -1,5 +1,8 @@
 // The run of a program, which answers cases until none is left.
-use std::io::{Stderr, Stdout, Write};
+ghost use Rattle.cases.specs.Block.{Ran};
+
+use crate::turns::Turns;
+use std::io::{Stderr, Stdout};
 
 // Why a run stops: the input has ended, or a read or a write failed or a record is cut short.
 #[derive(Clone, Copy, Debug, PartialEq, Eq)]
@@ -8,24 +11,14 @@ pub enum Stop {
     Failed,
 }
 
-// Answers cases, some at a time, until the run stops. A loop has to end, and nothing says that the input does: the turns
-// are so many that no run uses them up.
+// Answers cases, some at a time, until the run stops. How many turns are left is by the promise `stops` of `Turns`, so the
+// loop counts by hand.
 pub fn run<F: FnMut() -> Result<(), Stop>>(output: Stdout, errors: Stderr, mut next: F)
     requires { F.IsAlwaysCallable next }
+    ensures { (last : F) × Ran (λ f r g. F.step f r g) 18446744073709551615 next last }
 {
-    for _ in 0..u64::MAX {
-        if let Err(stop) = next() {
-            return tell(stop, output, errors);
-        }
+    let mut turns = Turns::all();
+    while turns.left > 0 {
+        turns = turns.after(next(), output, errors);
     }
-}
-
-// Once the input has ended and all of it is answered, END is written, so what a failed read or write cuts short shows.
-fn tell(stop: Stop, mut output: Stdout, mut errors: Stderr) {
-    let _told = match stop {
-        Stop::Ended => output.write_all(b"END\n").is_ok(),
-        Stop::Failed => errors
-            .write_all(b"stopped: a read or a write failed, or a record is cut short\n")
-            .is_ok(),
-    };
 }

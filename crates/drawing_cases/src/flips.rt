@@ -2,6 +2,7 @@
 use crate::calls::{curve_of, patch_of};
 use cases::answer::{Answer, Digits};
 use cases::bytes::copy;
+use cases::digest::eight;
 use cases::lent::digest;
 use drawing::Choice;
 
@@ -27,7 +28,7 @@ fn flipped_to(letter: u8, n: u32, m: u32, mark: u32, lent: &[u8]) -> Answer<5> {
     Answer {
         letter,
         digits: Digits::Hexadecimal,
-        numbers: [n, m, mark, held.first, held.second],
+        numbers: [n, m, mark, eight(held.first), eight(held.second)],
     }
 }
 

@@ -10,18 +10,18 @@ use Rattle.std.specs.Prelude.{Result, Ok, Err}
 use Rattle.drawing.specs.declared.Choice.{Choice}
 use Rattle.drawing.specs.ChoiceNumber.{choice_at}
 use Rattle.decide.specs.declared.Refusal.{Refusal}
-use Rattle.decide.specs.Verdict.{number_of, outcome_of}
+use Rattle.decide.specs.Verdict.{outcome_of}
 use Rattle.decide.specs.Refusal as refusal
 use Rattle.decide.specs.Refusal.{Rule, ◌when◌, Verdict, accepted, refused, Outcome, gives, outcome, first_that, or_else}
 use Rattle.decide.proofs.Truth.{true_of, false_of, less}
 use Rattle.decide.proofs.FirstThat.{telling_outcome, first_applies, first_passes}
 use Rattle.drawing.specs.Object.{Object}
 use Rattle.drawing.specs.Refusals.{check_verdict}
-use Rattle.drawing.specs.Drawing.{Drawing, Listing}
+use Rattle.drawing.specs.Drawing.{Drawing, drawn_by, Listing}
 use Rattle.drawing.specs.NewCells.{new_cells}
 use Rattle.scan.specs.declared.answer.Drawn.{Drawn}
 use Rattle.scan.specs.Answer.{Draws, Lists}
-use Rattle.scan.proofs.Orders.{draws_refused}
+use Rattle.drawing.proofs.Drawn.{drawn_refused}
 use Rattle.scan.proofs.Alike.{Alike, same_grid}
 use Rattle.flip.specs.Flip.{exchanged}
 use Rattle.exports.specs.Signed.{minus, signed_of, signed, other_length, own_first}
@@ -165,9 +165,18 @@ module _ (size : ℕ) (points : List ℕ) (choice : ℕ) (d : Drawing) (grid : L
       new_outcome (refused k) d new = refl
 
   -- Refused by the call's own order.
-  pub own_number : (why : Refusal) {new : ℕ} {r : ℤ} → length points ≡ size → choice ≤ 1 →
-      d.verdict (length grid) ≡ refused (number_of why) → r ≡ minus (number_of why) → DrawsBytes size points choice d grid grid new new r
-  own_number why h c v e = right_drawing d h c refl (draws_refused d grid v refl) e refl
+  pub own_number : {k new : ℕ} {r : ℤ} → length points ≡ size → choice ≤ 1 → d.verdict (length grid) ≡ refused k → r ≡ minus k →
+      DrawsBytes size points choice d grid grid new new r
+  own_number {k} {new} h c v e =
+      let passed = right_choice size points h c in
+      record {
+        call =
+            passed_call own (d.verdict (length grid)) d.answer (drawn_by d grid) grid passed
+            (sym (ap (λ u. outcome u d.answer) v)) (sym (drawn_refused d grid v)) e;
+        new_cells =
+            sym (ap (λ u. refusal.leaves (or_else u (d.verdict (length grid))) (new_cells grid grid) new) passed ∙
+            ap (λ u. refusal.leaves u (new_cells grid grid) new) v);
+      }
 
   -- As another drawing that does the same.
   pub as_another : (p : Drawing) → Alike p d → {after : List ℕ} {new newNow : ℕ} {r : ℤ} →

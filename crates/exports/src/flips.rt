@@ -15,7 +15,7 @@ pub extern "C" fn gidzkhalu_flip_curve(points: &[u8], flipped: &mut [u8]) -> i64
     if flipped.len() != 12 {
         return refused(Refusal::OutLength);
     }
-    flipped.copy_from_slice(&flip::reverse(points));
+    flip::reverse(points, flipped);
     0
 }
 
@@ -35,7 +35,7 @@ pub extern "C" fn gidzkhalu_flip_patch(
     if flipped.len() != 48 {
         return refused(Refusal::OutLength);
     }
-    flipped.copy_from_slice(&flip::exchange(points));
+    flip::exchange(points, flipped);
     std::mem::swap(n, m);
     0
 }

@@ -3,12 +3,12 @@
 use mathlib.Core.Path.{◌≡◌, refl, sym, ◌∙◌, ap, subst}
 use mathlib.Core.Logic.{⊎_elim}
 use mathlib.Core.Bool.{Bool, false, not, ◌&&◌}
-use mathlib.Core.List.{List, [], ◌∷◌, ◌++◌}
+use mathlib.Core.List.{List, [], ◌∷◌}
 use Prim.Native.Nat.{ℕ, zero, suc, ◌+◌, ◌*◌, ◌≤◌, ◌<◌}
 use native.Mathlib.Omega.{arith}
 use lib.Dec.{T, not_T, ltb, eqb}
-use lib.ListN.{length, get_or, take, drop}
-use lib.Seq.{ext_get_or, drop-cons, take-suc}
+use lib.ListN.{length, get_or, set, length-set}
+use lib.Seq.{get_or-set_same, get_or-set_other, ext_get_or}
 use Rattle.decide.specs.Some.{some_below, some_of}
 use Rattle.decide.proofs.Truth.{both, decided, equal, less, not_less, false_iff, same_test}
 use Rattle.decide.proofs.Some.{some_below_lem, some_of_lem}
@@ -34,34 +34,61 @@ same_points count l m hl hm same =
     (λ q h. let w = by_point q in
     subst (λ i. get_or l i 0 ≡ get_or m i 0) (sym w.2) (same w.0 (omega (arith, w.2)) w.1))
 
+-- A point written in place k, x y z.
+abbrev pub put : (to : List ℕ) (k : ℕ) (v : Axis → ℕ) → List ℕ
+put to k v = set (set (set to (3 * k) (v x_axis)) (3 * k + 1) (v y_axis)) (3 * k + 2) (v z_axis)
+
+module _ (to : List ℕ) (k : ℕ) (v : Axis → ℕ) where
+  abbrev with_x : List ℕ
+  with_x = set to (3 * k) (v x_axis)
+
+  abbrev with_y : List ℕ
+  with_y = set with_x (3 * k + 1) (v y_axis)
+
+  -- Another byte than its three keeps what it held.
+  kept : (q : ℕ) → ¬ (q ≡ 3 * k) → ¬ (q ≡ 3 * k + 1) → ¬ (q ≡ 3 * k + 2) → get_or (put to k v) q 0 ≡ get_or to q 0
+  kept q nx ny nz =
+      get_or-set_other with_y (3 * k + 2) q (v z_axis) 0 nz ∙
+      get_or-set_other with_x (3 * k + 1) q (v y_axis) 0 ny ∙
+      get_or-set_other to (3 * k) q (v x_axis) 0 nx
+
+  pub put_before : (j : ℕ) → j < k → (a : Axis) → coordinate (put to k v) a j ≡ coordinate to a j
+  unfolding coordinate
+  put_before j l a =
+      let o = offset_below a in
+      kept (3 * j + offset a) (λ e. omega (arith, e, o)) (λ e. omega (arith, e, o)) (λ e. omega (arith, e, o))
+
+  pub put_here : 3 * k + 3 ≤ length to → (a : Axis) → coordinate (put to k v) a k ≡ v a
+  unfolding coordinate offset
+  put_here h x_axis =
+      let z : 3 * k + 0 ≡ 3 * k = omega arith in
+      ap (λ q. get_or (put to k v) q 0) z ∙
+      get_or-set_other with_y (3 * k + 2) (3 * k) (v z_axis) 0 (λ e. omega (arith, e)) ∙
+      get_or-set_other with_x (3 * k + 1) (3 * k) (v y_axis) 0 (λ e. omega (arith, e)) ∙
+      get_or-set_same to (3 * k) (v x_axis) 0 (omega arith)
+  put_here h y_axis =
+      get_or-set_other with_y (3 * k + 2) (3 * k + 1) (v z_axis) 0 (λ e. omega (arith, e)) ∙
+      get_or-set_same with_x (3 * k + 1) (v y_axis) 0 (rw length-set (omega arith))
+  put_here h z_axis = get_or-set_same with_y (3 * k + 2) (v z_axis) 0 (simp length-set (omega arith))
+
+-- The coordinates as they are read, x first.
+abbrev pub read : (from : List ℕ) (k : ℕ) → Axis → ℕ
+read from k x_axis = get_or from (3 * k) 0
+read from k y_axis = get_or from (3 * k + 1) 0
+read from k z_axis = get_or from (3 * k + 2) 0
+
+pub read_point : (from : List ℕ) (k : ℕ) (a : Axis) → read from k a ≡ coordinate from a k
+unfolding coordinate offset
+read_point from k x_axis = let z : 3 * k ≡ 3 * k + 0 = omega arith in ap (λ q. get_or from q 0) z
+read_point from k y_axis = refl
+read_point from k z_axis = refl
+
 module _ (points : List ℕ) where
   -- Three coordinates a number.
   pub length_points_at : (numbers : List ℕ) → length (points_at points numbers) ≡ 3 * length numbers
   unfolding points_at
   length_points_at [] = refl
   length_points_at (k ∷ ks) = rw (length_points_at ks) (omega arith)
-
-  -- Those with one number more.
-  pub points_at-append : (numbers more : List ℕ) → points_at points (numbers ++ more) ≡ points_at points numbers ++ points_at points more
-  unfolding points_at
-  points_at-append [] more = refl
-  points_at-append (k ∷ ks) more = rw (points_at-append ks more)
-
-  -- The three bytes of one.
-  pub point_bytes : (k : ℕ) → 3 * k + 3 ≤ length points → take 3 (drop (3 * k) points) ≡ points_at points (k ∷ [])
-  unfolding points_at coordinate offset
-  point_bytes k h =
-      let x : 3 * k + 0 ≡ 3 * k = omega arith in
-      let y : 3 * k + 1 ≡ suc (3 * k) = omega arith in
-      let z : 3 * k + 2 ≡ suc (suc (3 * k)) = omega arith in
-      rw (
-        x,
-        y,
-        z,
-        drop-cons points (3 * k) 0 (omega arith),
-        drop-cons points (suc (3 * k)) 0 (omega arith),
-        drop-cons points (suc (suc (3 * k))) 0 (omega arith),
-      ) refl
 
   front : (n : ℕ) (ns : List ℕ) (a : Axis) → coordinate (points_at points (n ∷ ns)) a 0 ≡ coordinate points a n
   unfolding points_at coordinate offset

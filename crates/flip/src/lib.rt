@@ -13,53 +13,57 @@ use patch::Patch;
 pub fn flip_curve(curve: Curve) -> Curve
     ensures { result ≡ flipped_curve curve }
 {
-    Curve {
-        points: reverse(&curve.points),
-        ..curve
-    }
+    let mut points = [0; 12];
+    reverse(&curve.points, &mut points);
+    Curve { points, ..curve }
 }
 
 // The patch with i and j exchanged, and n and m exchanged; mark and choice as they are.
 pub fn flip_patch(patch: Patch) -> Patch
     ensures { result ≡ flipped_patch patch }
 {
+    let mut points = [0; 48];
+    exchange(&patch.points, &mut points);
     Patch {
-        points: exchange(&patch.points),
+        points,
         n: patch.m,
         m: patch.n,
         ..patch
     }
 }
 
-// A curve's four points in reverse order.
-pub fn reverse(points: &[u8; 12]) -> [u8; 12]
-    ensures { result ≡ reversed points.now }
+// Writes a curve's four points in reverse order.
+pub fn reverse(points: &[u8; 12], to: &mut [u8])
+    requires { length to.old ≡ 12 }
+    ensures { to.new ≡ reversed points.now }
 {
-    points_at(points, &[3, 2, 1, 0])
+    put_points(points, &[3, 2, 1, 0], to);
 }
 
-// A patch's sixteen points with i and j exchanged.
-pub fn exchange(points: &[u8; 48]) -> [u8; 48]
-    ensures { result ≡ exchanged points.now }
+// Writes a patch's sixteen points with i and j exchanged.
+pub fn exchange(points: &[u8; 48], to: &mut [u8])
+    requires { length to.old ≡ 48 }
+    ensures { to.new ≡ exchanged points.now }
 {
-    points_at(
-        points,
-        &[0, 4, 8, 12, 1, 5, 9, 13, 2, 6, 10, 14, 3, 7, 11, 15],
-    )
+    let numbers = [0, 4, 8, 12, 1, 5, 9, 13, 2, 6, 10, 14, 3, 7, 11, 15];
+    put_points(points, &numbers, to);
 }
 
-// The points with these numbers, in turn, x y z of each. Written by places: of what goes through `chunks_exact_mut` a proof knows
-// the length alone.
-fn points_at<const N: usize>(points: &[u8], numbers: &[u8]) -> [u8; N]
-    requires size { N ≡ 3 * length numbers.now }
+// Writes the points with these numbers, in turn, x y z of each, straight into what is lent. By places, since of what goes through
+// `chunks_exact_mut` a proof knows the length alone, and byte by byte: `copy_from_slice` of three bytes is a call or a test whether
+// the two overlap.
+fn put_points(points: &[u8], numbers: &[u8], to: &mut [u8])
+    requires to_len { length to.old ≡ 3 * length numbers.now }
     requires numbers_value { some_of (no_point points.now) numbers.now ≡ false }
-    ensures { result ≡ points_at points.now numbers.now }
+    ensures { to.new ≡ points_at points.now numbers.now }
 {
-    let mut out = [0; N];
-    let to = &mut out[..];
     for (k, &number) in numbers.iter().enumerate() {
         let at = 3 * usize::from(number);
-        to[3 * k..3 * k + 3].copy_from_slice(&points[at..at + 3]);
+        let x = points[at];
+        let y = points[at + 1];
+        let z = points[at + 2];
+        to[3 * k] = x;
+        to[3 * k + 1] = y;
+        to[3 * k + 2] = z;
     }
-    out
 }

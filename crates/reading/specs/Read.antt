@@ -14,6 +14,11 @@ pub record ReadAt (before : List ℕ) (at : ℕ) (got : Result ℕ (Unit {0})) (
   pub kept : take at after ≡ take at before
   pub moved : Moved (length before - at) got
 
+-- What a read's answer says where so many bytes were read before: how many it put there, or that it failed after those.
+abbrev pub answer_of : {error : Type 0} (got : Result ℕ error) (done : ℕ) → Result ℕ ReadFailed
+answer_of (Ok count) done = Ok count
+answer_of (Err e) done = Err (record { count = done })
+
 -- Reads of some bytes each, every one from where the one before ended: how many bytes in all, and what the buffer then
 -- holds.
 pub data Reads (before : List ℕ) : (count : ℕ) (after : List ℕ) → Type 0 where

@@ -2,9 +2,10 @@
 // is `pub` for the programs.
 #![tactic(auto)]
 
-ghost use Rattle.reading.specs.Read.{Filled};
+ghost use Rattle.std.specs.Prelude.{◌≡◌};
+ghost use Rattle.reading.specs.Read.{Filled, answer_of};
 
-use std::io::Read;
+use std::io::{self, Read};
 
 // How many bytes were read before the read that failed.
 #[derive(Clone, Copy, Debug, PartialEq, Eq)]
@@ -19,11 +20,21 @@ pub fn fill<R: Read>(reader: &mut R, buf: &mut [u8]) -> Result<usize, ReadFailed
 {
     let mut done = 0;
     while done < buf.len() {
-        match reader.read(&mut buf[done..]) {
-            Ok(0) => return Ok(done),
-            Ok(count) => done += count,
-            Err(_) => return Err(ReadFailed { count: done }),
+        let count = answered(reader.read(&mut buf[done..]), done)?;
+        if count == 0 {
+            return Ok(done);
         }
+        done += count;
     }
     Ok(done)
+}
+
+// What a read's answer says where so many bytes were read before: how many it put there, or that it failed after those.
+fn answered(got: io::Result<usize>, done: usize) -> Result<usize, ReadFailed>
+    ensures { result ≡ answer_of got done }
+{
+    match got {
+        Ok(count) => Ok(count),
+        Err(_) => Err(ReadFailed { count: done }),
+    }
 }

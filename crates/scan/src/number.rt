@@ -8,7 +8,7 @@ use crate::walker::Strides;
 use cubic::differences::{Cubic, Forward};
 
 // Twice a coordinate: the machine works on twice the value.
-fn doubled(c: u8) -> i64
+pub fn doubled(c: u8) -> i64
     ensures { result ≡ pos (2 * c) }
 {
     2 * i64::from(c)

@@ -23,7 +23,7 @@ mod printed;
 use cases::answer::{Answer, Digits};
 use cases::block::write_answers;
 use cases::bytes::fill;
-use cases::digest::Digest;
+use cases::digest::{Digest, eight};
 use cases::input::{read_bytes, read_heading};
 use cases::record::{byte, number};
 use cases::run::{Stop, run};
@@ -76,12 +76,12 @@ fn answered(answer: Result<Sheet, LineRefusal>, held: Digest, printed: Digest) -
             a,
             b,
             new_cells,
-            held.marked,
-            held.first,
-            held.second,
-            printed.marked,
-            printed.first,
-            printed.second,
+            eight(held.marked),
+            eight(held.first),
+            eight(held.second),
+            eight(printed.marked),
+            eight(printed.first),
+            eight(printed.second),
         ],
     }
 }

@@ -10,7 +10,14 @@ ghost use Rattle.sheet_program.specs.Totals.{WritesTotals};
 
 pub use print::{print_listing, print_totals};
 use sheet_text::grid::Cube;
-use std::io::{self, Stderr, Stdin, Stdout, Write};
+use std::io::{Stderr, Stdin, Stdout, Write};
+
+// What a program prints of a sheet's cube.
+#[derive(Clone, Copy)]
+pub enum Report {
+    Listing,
+    Totals,
+}
 
 // Draws a sheet into the buffer, or writes the line that says why it is refused. Answers the side of the cube that is
 // drawn, or the number of bytes of the refusal line.
@@ -47,24 +54,20 @@ pub fn total_sheet(input: &[u8], buffer: &mut [u8; 64000], text: &mut [u8]) -> u
     }
 }
 
-// Runs the program of that name, which prints a sheet so. The input is read to its end, or to one byte past the longest
-// sheet: what follows changes nothing.
-pub fn run<P: FnOnce(Stdout, &[u8]) -> io::Result<()>>(
-    input: Stdin,
-    output: Stdout,
-    errors: Stderr,
-    name: &[u8],
-    print: P,
-)
-    requires { P.IsAlwaysCallable print }
-{
+// Runs the program of that name. The input is read to its end, or to one byte past the longest sheet: what follows
+// changes nothing.
+pub fn run(input: Stdin, output: Stdout, errors: Stderr, name: &[u8], report: Report) {
     let mut sheet = [0u8; 14207];
     let mut reader = input;
     let Ok(count) = reading::fill(&mut reader, &mut sheet) else {
         tell(errors, name, b": the sheet cannot be read\n");
         return;
     };
-    if print(output, &sheet[..count]).is_err() {
+    let printed = match report {
+        Report::Listing => print_listing(output, &sheet[..count]),
+        Report::Totals => print_totals(output, &sheet[..count]),
+    };
+    if printed.is_err() {
         tell(
             errors,
             name,

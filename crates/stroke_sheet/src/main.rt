@@ -2,12 +2,14 @@
 // refused.
 #![tactic(auto)]
 
+use sheet_program::Report;
+
 fn main(rt: HostRuntime) {
     sheet_program::run(
         rt.stdin(),
         rt.stdout(),
         rt.stderr(),
         b"stroke_sheet",
-        sheet_program::print_listing,
+        Report::Listing,
     );
 }

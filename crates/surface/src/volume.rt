@@ -19,15 +19,15 @@ pub fn step_too_long(volume: Volume, scale: i64, n: u32, m: u32, l: u32) -> bool
 {
     let mut rest = volume;
     let mut k = 0;
-    loop {
+    'search: loop {
         if crate::step_too_long(rest.slice(), scale, n, m) {
-            break true;
+            break 'search true;
         }
         if k == l {
             break false;
         }
         if crate::some_long(rest.steps().slice(), scale, m + 1, n + 1) {
-            break true;
+            break 'search true;
         }
         rest = rest.next();
         k += 1;

@@ -1,18 +1,17 @@
 -- `exchange` meets its contract: its numbers are those of the definition.
 use borrow.Author.Rules.{rules}
 use mathlib.Core.Path.{◌≡◌, refl}
-use lib.Dec.{lit<}
 use lib.ListN.{length}
 use Rattle.decide.specs.Some.{some_of}
 use Rattle.flip.specs.Flip.{no_point, exchanged}
 use Rattle.flip.proofs.exchange.Goals as goal
 
-pub points_at-requires : goal.points_at-requires
+pub put_points-requires : goal.put_points-requires
 unfolding some_of no_point
-points_at-requires c =
+put_points-requires c =
     let all_points : length c.args.points.now ≡ 48 = search rules in
-    (lit< tt, (refl, rw all_points refl))
+    record { to_len = c.requires; numbers_value = rw all_points refl }
 
 pub returns : goal.returns
 unfolding exchanged
-returns c = c.points_at.ensures
+returns c = c.put_points.ensures

@@ -27,5 +27,4 @@ returns c =
     let s = c.args in
     let passes = flip_passes 12 s.points.now s.flipped.now (search rules) (omega (arith, c.if-flipped-ne12.false)) in
     let same : ◌≡◌ {A = List ℕ} c.in-Ok.points.now s.points.now = search rules in
-    let after : c.copy_from_slice.new.self ≡ reversed s.points.now = c.copy_from_slice.ensures.after ∙ c.reverse.ensures ∙ ap reversed same in
-    flip_done 12 s.points.now _ reversed passes after refl
+    flip_done 12 s.points.now _ reversed passes (c.reverse.ensures ∙ ap reversed same) refl

@@ -27,5 +27,5 @@ returns c =
     let s = c.args in
     let passes = flip_passes 48 s.points.now s.flipped.now (search rules) (omega (arith, c.if-flipped-ne48.false)) in
     let same : ◌≡◌ {A = List ℕ} c.in-Ok.points.now s.points.now = search rules in
-    let after : c.copy_from_slice.new.self ≡ exchanged s.points.now = c.copy_from_slice.ensures.after ∙ c.exchange.ensures ∙ ap exchanged same in
-    patch_flip_done s.points.now s.n.now s.m.now _ passes after c.swap.ensures.x_after c.swap.ensures.y_after refl
+    patch_flip_done s.points.now s.n.now s.m.now _ passes (c.exchange.ensures ∙ ap exchanged same)
+    c.swap.ensures.x_after c.swap.ensures.y_after refl

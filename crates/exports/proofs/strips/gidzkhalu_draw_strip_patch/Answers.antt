@@ -40,6 +40,6 @@ returns-in-Ok-try_from c =
     let o = patch a.n a.m a.points.now a.mark (choice_of a.choice) in
     let judged : Judges a.side (length a.grid.now) o (verdict_of c.judge_patch.result) =
     c.judge_patch.ensures.each a.points.now (choice_of a.choice) in
-    own_number 48 _ _ _ _ c.in-Err.refusal (omega (arith, c.if-points-ne48.false)) (choice_at_most _ c.in-Ok-try_from.ensures)
+    own_number 48 _ _ _ _ (omega (arith, c.if-points-ne48.false)) (choice_at_most _ c.in-Ok-try_from.ensures)
     (subst (λ v. Judges a.side (length a.grid.now) o (verdict_of v)) c.in-Err.is judged)
     (reads c.refused-in-Err.ensures)

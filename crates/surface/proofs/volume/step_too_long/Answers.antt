@@ -15,9 +15,9 @@ use Rattle.surface.proofs.Search.{found_inside, found_between, found_nowhere}
 use Rattle.surface.proofs.volume.step_too_long.Goals as goal
 use Rattle.surface.proofs.volume.step_too_long.Invariants.{AtSlice}
 
-pub loop-rest-init : goal.loop-rest-init
+pub search-init : goal.search-init
 unfolding volume_at surface_at nexts
-loop-rest-init c = record {
+search-init c = record {
   within = omega arith;
   rest_is = refl;
   passed = λ b h. absurd (omega arith);
@@ -41,24 +41,24 @@ module _ {v rest : Volume} {N : ℤ} {n m l k : ℕ} (a : AtSlice v N n m l rest
 
 pub step_too_long-requires : goal.step_too_long-requires
 step_too_long-requires c =
-    let a = c.loop-rest.invariant in
-    rw (slice_is a c.slice.ensures, to_z-of_z c.ranges.scale) (c.requires.in_slice c.loop-rest.k a.within)
+    let a = c.search.invariant in
+    rw (slice_is a c.slice.ensures, to_z-of_z c.ranges.scale) (c.requires.in_slice c.search.k a.within)
 
 pub some_long-requires : goal.some_long-requires
 some_long-requires c =
-    let a = c.loop-rest.invariant in
-    rw (steps_is a c.steps.ensures c.slice-in-loop-rest.ensures, to_z-of_z c.ranges.scale, add-one, add-one)
-    (c.requires.to_next c.loop-rest.k (omega (arith, a.within, c.if-k-l.false)))
+    let a = c.search.invariant in
+    rw (steps_is a c.steps.ensures c.slice-in-search.ensures, to_z-of_z c.ranges.scale, add-one, add-one)
+    (c.requires.to_next c.search.k (omega (arith, a.within, c.if-k-l.false)))
 
 pub next-rest-requires : goal.next-rest-requires
 next-rest-requires c =
-    let a = c.loop-rest.invariant in
-    rw a.rest_is (c.requires.room c.loop-rest.k (omega (arith, a.within, c.if-k-l.false)))
+    let a = c.search.invariant in
+    rw a.rest_is (c.requires.room c.search.k (omega (arith, a.within, c.if-k-l.false)))
 
-pub loop-rest-preserved : goal.loop-rest-preserved
+pub search-preserved : goal.search-preserved
 unfolding volume_at surface_at nexts
-loop-rest-preserved c =
-    let a = c.loop-rest.invariant in
+search-preserved c =
+    let a = c.search.invariant in
     record {
       within = omega (arith, a.within, c.if-k-l.false);
       rest_is = rw add-one (c.next-rest.ensures ∙ ap next_volume a.rest_is);
@@ -67,14 +67,14 @@ loop-rest-preserved c =
           (sym (in_slice a c.slice.ensures c.step_too_long.ensures) ∙ c.if-step_too_long.false);
       passed_on =
           below_more _ _ a.passed_on
-          (sym (to_next a c.steps.ensures c.slice-in-loop-rest.ensures c.some_long.ensures) ∙
+          (sym (to_next a c.steps.ensures c.slice-in-search.ensures c.some_long.ensures) ∙
           c.if-some_long.false);
     }
 
 pub returns-then-step_too_long : goal.returns-then-step_too_long
 returns-then-step_too_long c =
     let s = c.args in
-    let a = c.loop-rest.invariant in
+    let a = c.search.invariant in
     sym (found_inside s.volume s.scale s.n s.m s.l a.within
     (rw (to_z-of_z c.ranges.scale)
     at (sym (in_slice a c.slice.ensures c.step_too_long.ensures) ∙ c.if-step_too_long.true)))
@@ -82,7 +82,7 @@ returns-then-step_too_long c =
 pub returns-then-k-l : goal.returns-then-k-l
 returns-then-k-l c =
     let s = c.args in
-    let a = c.loop-rest.invariant in
+    let a = c.search.invariant in
     let none = sym (in_slice a c.slice.ensures c.step_too_long.ensures) ∙ c.if-step_too_long.false in
     sym (found_nowhere s.volume s.scale s.n s.m s.l
     (λ q h. rw (to_z-of_z c.ranges.scale) at (below_more _ _ a.passed none q (omega (arith, c.if-k-l.true))))
@@ -91,7 +91,7 @@ returns-then-k-l c =
 pub returns-then-some_long : goal.returns-then-some_long
 returns-then-some_long c =
     let s = c.args in
-    let a = c.loop-rest.invariant in
+    let a = c.search.invariant in
     sym (found_between s.volume s.scale s.n s.m s.l (omega (arith, a.within, c.if-k-l.false))
     (rw (to_z-of_z c.ranges.scale)
-    at (sym (to_next a c.steps.ensures c.slice-in-loop-rest.ensures c.some_long.ensures) ∙ c.if-some_long.true)))
+    at (sym (to_next a c.steps.ensures c.slice-in-search.ensures c.some_long.ensures) ∙ c.if-some_long.true)))

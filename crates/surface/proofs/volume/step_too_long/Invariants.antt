@@ -14,8 +14,8 @@ pub record AtSlice (v : Volume) (N : ℤ) (n m l : ℕ) (rest : Volume) (k : ℕ
   pub passed : (b : ℕ) → b < k → long_in_slice v N n m b ≡ false
   pub passed_on : (b : ℕ) → b < k → long_to_next v N n m b ≡ false
 
-abbrev pub invariant-loop-rest : goal.invariant-loop-rest
-invariant-loop-rest l = AtSlice l.initial.rest l.scale l.n l.m l.l l.rest l.k
+abbrev pub invariant-search : goal.invariant-search
+invariant-search l = AtSlice l.initial.rest l.scale l.n l.m l.l l.rest l.k
 
-abbrev pub decreases-loop-rest : goal.decreases-loop-rest
-decreases-loop-rest l = l.l - l.k
+abbrev pub decreases-search : goal.decreases-search
+decreases-search l = l.l - l.k
