@@ -11,8 +11,8 @@ pub enum Stop {
     Failed,
 }
 
-// Answers cases, some at a time, until the run stops. How many turns are left is by the promise `stops` of `Turns`, so the
-// loop counts by hand.
+// Answers cases, some at a time, until the run stops. No `for`: how many turns are left after one is what `Turns::after`
+// promises.
 pub fn run<F: FnMut() -> Result<(), Stop>>(output: Stdout, errors: Stderr, mut next: F)
     requires { F.IsAlwaysCallable next }
     ensures { (last : F) × Ran (λ f r g. F.step f r g) 18446744073709551615 next last }

@@ -50,8 +50,8 @@ pub fn exchange(points: &[u8; 48], to: &mut [u8])
 }
 
 // Writes the points with these numbers, in turn, x y z of each, straight into what is lent. By places, since of what goes through
-// `chunks_exact_mut` a proof knows the length alone, and byte by byte: `copy_from_slice` of three bytes is a call or a test whether
-// the two overlap.
+// `chunks_exact_mut` a proof knows the length alone, and byte by byte, since `copy_from_slice` of three bytes is compiled to a test
+// whether the two overlap, and a copy for either case.
 fn put_points(points: &[u8], numbers: &[u8], to: &mut [u8])
     requires to_len { length to.old ≡ 3 * length numbers.now }
     requires numbers_value { some_of (no_point points.now) numbers.now ≡ false }
